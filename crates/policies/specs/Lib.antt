@@ -1,1 +1,5 @@
 pub mod Kinds
+pub mod Model
+pub mod Views
+pub mod Range
+pub mod SixLabels
