@@ -1,0 +1,4 @@
+//! The log over a lent slice of places.
+mod logs;
+
+pub use logs::Log;
