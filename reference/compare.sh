@@ -8,6 +8,7 @@ cd "$(dirname "$0")/.." || exit 2
 count=${1:-100}
 first=${2:-1}
 program=${LABELRUN:-./labelrun}
+[ -x "$program" ] || { echo "no program at $program"; exit 2; }
 work=$(mktemp -d) || exit 2
 trap 'rm -rf "$work"' EXIT
 different=0
