@@ -1,7 +1,7 @@
 #!/usr/bin/env python3
-"""A second labelrun, written from docs/RULES.md alone.
+"""A second labelrun, for the rules that docs/RULES.md states.
 
-It shares nothing with the proved program. Give it records on standard input; it writes one record for each of them
+It shares no code with the proved program. Give it records on standard input; it writes one record for each of them
 to standard output:
 
     python3 reference/labelrun.py < examples/day.csv
