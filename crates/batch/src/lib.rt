@@ -1,0 +1,2 @@
+//! Batches: records in, calls of a monitor, records out.
+mod lines;
