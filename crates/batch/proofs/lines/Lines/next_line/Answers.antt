@@ -23,7 +23,7 @@ returns c =
     let xs = lines .input .now in
     let short : length xs < 2 ^ 64 = search needs in
     let next : (c .line-end-end .result + 2 ≤ length xs → c .min-self .result ≡ c .line-end-end .result + 2) × (length xs < c .line-end-end .result + 2 → c .min-self .result ≡ length xs) =
-        ((λ h. omega (arith, c .min-self .ensures, c .saturating-add .ensures)), (λ h. omega (arith, c .min-self .ensures, c .saturating-add .ensures))) in
+    ((λ h. omega (arith, c .min-self .ensures, c .saturating-add .ensures)), (λ h. omega (arith, c .min-self .ensures, c .saturating-add .ensures))) in
     let on = goes-on xs (lines .from) (c .line-end-end .result) (c .min-self .result) (c .line-end-end .ensures .value) (c .if-from-input .left) (c .line-end-end .ensures .within) next in
     record {
       left = line-at xs (lines .from) (c .line-end-end .result) (c .min-self .result) (c .line-end-end .ensures .value) (c .if-from-input .left) (c .line-end-end .ensures .within) next;

@@ -1,0 +1,182 @@
+//! Worked examples over the real monitor: each is a short day of one session.
+#[cfg(test)]
+mod tests {
+    use labels::GradeLabel;
+    use labels::GradeLabelDebug;
+    use labels::GradeLabelPartialEq;
+    use labels::GradeOrder;
+    use labels::LabelOrder;
+    use monitor::Monitor;
+    use monitor::SessionRow;
+    use policies::Integrity;
+    use policies::IntegrityPolicy;
+    use policies::Kind;
+    use policies::KindDebug;
+    use policies::KindPartialEq;
+    use policies::Policy;
+    use policies::Secrecy;
+    use policies::SecrecyPolicy;
+    use policies::SixLabels;
+    use policies::Verdict;
+    use policies::VerdictDebug;
+    use policies::VerdictPartialEq;
+    use reference::Entry;
+    use reference::EntryDebug;
+    use reference::EntryPartialEq;
+    use reference::Refusal;
+    use reference::RefusalDebug;
+    use reference::RefusalPartialEq;
+    use reference::Request;
+    use reference::SessionState;
+    use std::test::*;
+
+    fn plain(grade: u8) -> GradeLabel {
+        GradeLabel::from_map(grade, &[])
+    }
+
+    fn blank_row() -> SessionRow<SixLabels<GradeLabel>> {
+        let low = plain(0);
+        SessionRow {
+            marks: SixLabels {
+                clearance: low,
+                current: low,
+                in_low: low,
+                in_high: low,
+                out_low: low,
+                out_high: low,
+            },
+            state: SessionState::Open,
+        }
+    }
+
+    const BLANK: Entry = Entry {
+        session: 7,
+        object: 7,
+        kind: Kind::Both,
+        verdict: Verdict::Granted,
+    };
+
+    // Session 0 puts a request, and the verdict is the one that is wanted.
+    fn gives<P: Policy<Label = GradeLabel>>(
+        monitor: &mut Monitor<'_, P>,
+        kind: Kind,
+        object: usize,
+        wanted: Verdict,
+    ) -> Result<(), Fail> {
+        let (verdict, _) = monitor.request(Request {
+            session: 0,
+            object,
+            kind,
+        })?;
+        check_eq(verdict, wanted)
+    }
+
+    // The objects have the plain grades 0 to 6, by their numbers.
+    fn grades() -> [GradeLabel; 7] {
+        [
+            plain(0),
+            plain(1),
+            plain(2),
+            plain(3),
+            plain(4),
+            plain(5),
+            plain(6),
+        ]
+    }
+
+    #[test]
+    fn secrecy_around_the_clearance() -> Result<(), Fail> {
+        let objects = grades();
+        let mut rows = [blank_row(); 1];
+        let mut places = [BLANK; 8];
+        let mut day = Monitor::<Secrecy<GradeLabel>>::new(&objects, &mut rows, &mut places);
+        check_eq(day.enrol(plain(2), plain(2))?, 0)?;
+        gives(&mut day, Kind::Read, 2, Verdict::Granted)?;
+        check_eq(day.row(0)?.in_high, plain(2))?;
+        check_eq(day.row(0)?.current, plain(2))?;
+        gives(&mut day, Kind::Write, 3, Verdict::Granted)?;
+        check_eq(day.row(0)?.out_low, plain(3))?;
+        gives(&mut day, Kind::Write, 1, Verdict::History)?;
+        gives(&mut day, Kind::Read, 3, Verdict::Clearance)?;
+        gives(&mut day, Kind::Both, 2, Verdict::Granted)?;
+        check_eq(day.row(0)?.out_low, plain(2))
+    }
+
+    #[test]
+    fn secrecy_after_a_write_below_the_clearance() -> Result<(), Fail> {
+        let objects = grades();
+        let mut rows = [blank_row(); 1];
+        let mut places = [BLANK; 8];
+        let mut day = Monitor::<Secrecy<GradeLabel>>::new(&objects, &mut rows, &mut places);
+        check_eq(day.enrol(plain(5), plain(0))?, 0)?;
+        gives(&mut day, Kind::Write, 3, Verdict::Granted)?;
+        gives(&mut day, Kind::Read, 4, Verdict::History)?;
+        gives(&mut day, Kind::Read, 3, Verdict::Granted)?;
+        check_eq(day.row(0)?.current, plain(3))
+    }
+
+    #[test]
+    fn secrecy_by_categories() -> Result<(), Fail> {
+        let first = GradeLabel::from_map(1, &[0x80]);
+        let ninth = GradeLabel::from_map(2, &[0x00, 0x40]);
+        let objects = [first, ninth];
+        let mut rows = [blank_row(); 1];
+        let mut places = [BLANK; 8];
+        let mut day = Monitor::<Secrecy<GradeLabel>>::new(&objects, &mut rows, &mut places);
+        let both = GradeLabel::from_map(2, &[0x80, 0x40]);
+        check_eq(day.enrol(both, GradeOrder::low())?, 0)?;
+        gives(&mut day, Kind::Read, 0, Verdict::Granted)?;
+        gives(&mut day, Kind::Write, 1, Verdict::History)
+    }
+
+    #[test]
+    fn integrity_around_the_clearance() -> Result<(), Fail> {
+        let objects = grades();
+        let mut rows = [blank_row(); 1];
+        let mut places = [BLANK; 8];
+        let mut day = Monitor::<Integrity<GradeLabel>>::new(&objects, &mut rows, &mut places);
+        check_eq(day.enrol(plain(5), plain(5))?, 0)?;
+        gives(&mut day, Kind::Read, 3, Verdict::Granted)?;
+        gives(&mut day, Kind::Write, 4, Verdict::History)?;
+        gives(&mut day, Kind::Write, 3, Verdict::Granted)?;
+        gives(&mut day, Kind::Write, 6, Verdict::Clearance)
+    }
+
+    #[test]
+    fn refusals_leave_everything() -> Result<(), Fail> {
+        let objects = grades();
+        let mut rows = [blank_row(); 1];
+        let mut places = [BLANK; 1];
+        let mut day = Monitor::<Secrecy<GradeLabel>>::new(&objects, &mut rows, &mut places);
+        let read = Request {
+            session: 0,
+            object: 2,
+            kind: Kind::Read,
+        };
+        check_eq(day.request(read), Err(Refusal::NotEnrolled))?;
+        check_eq(day.enrol(plain(2), plain(3)), Err(Refusal::NotDominated))?;
+        check_eq(day.enrol(plain(2), plain(2)), Ok(0))?;
+        // No row is free, and that comes before the start label.
+        check_eq(day.enrol(plain(2), plain(3)), Err(Refusal::NoFreeRow))?;
+        let far = Request {
+            session: 0,
+            object: 7,
+            kind: Kind::Read,
+        };
+        check_eq(day.request(far), Err(Refusal::UnknownObject))?;
+        check_eq(day.request(read), Ok((Verdict::Granted, 0)))?;
+        let up = Request {
+            session: 0,
+            object: 3,
+            kind: Kind::Write,
+        };
+        check_eq(day.request(up), Err(Refusal::NoFreePlace))?;
+        check_eq(day.row(0)?.out_low, GradeOrder::high())?;
+        check_eq(day.entries().len(), 1)?;
+        check_eq(day.close(0), Ok(()))?;
+        check_eq(day.close(0), Err(Refusal::Closed))?;
+        check_eq(day.close(1), Err(Refusal::NotEnrolled))?;
+        check_eq(day.request(read), Err(Refusal::Closed))?;
+        check_eq(day.row(0)?.in_high, plain(2))
+    }
+}
