@@ -53,7 +53,7 @@ by-test : (b : Bool) (u v : ℕ) → Some v ≡ cond b (Some u) None → (b ≡ 
 by-test true u v e = (refl, cc)
 by-test false u v e = let z : _≡_ {A = ℕ} 0 1 = cc in absurd (omega arith)
 
--- one pair of Base16 digits
+-- one pair of Base 16 digits
 pub base16-more : (at : ℕ) (done xs : List ℕ) (u l : ℕ) → 2 ≤ length xs → Some u ≡ hex-digit (getD xs 0 0) → Some l ≡ hex-digit (getD xs 1 0)
     → base16 at done xs ≡ base16 (at + 2) (done ++ ((u * 16 + l) ∷ [])) (drop 2 xs)
 base16-more at done [] u l h p q = absurd (omega arith)
@@ -63,7 +63,7 @@ base16-more at done (a ∷ (b ∷ xs)) u l h p q =
     let y = by-test (is-hex b) (hex-value b) l q in
     rw (x .0, y .0, x .1, y .1)
 
--- a tag in Base16, once its octets are the first n of a buffer
+-- a tag in Base 16, once its octets are the first n of a buffer
 pub label-fault : (text ys : List ℕ) (n : ℕ) (f : TagFault) → length text ≤ 256 → base16 0 [] text ≡ Ok (take n ys) → Err f ≡ tag-of (take (n - 0) ys)
     → written-label text ≡ Err (Tag f)
 label-fault text ys n f h e t =
@@ -77,16 +77,3 @@ label-label text ys n l u h within e t =
     let no : ltb 256 (length text) ≡ false = le-ltb 256 (length text) h in
     let is : tag-of (take n ys) ≡ Ok (l, u) = ap (λ (k : ℕ). tag-of (take k ys)) (sym (sub-zero n)) ∙ sym t in
     rw (no, e, is, length-take-le n ys within)
-
--- what a result was before its fault was placed or passed up
-pub placed-err : {T E : Type 0} (r : Result T E) (n : ℕ) (q : Placed E) → Err q ≡ placed-of r n → (r ≡ Err (q .fault)) × (q .place ≡ n)
-placed-err (Ok x) n q e = let z : _≡_ {A = ℕ} 0 1 = cc in absurd (omega arith)
-placed-err (Err f) n q e = let same : q ≡ record { place = n; fault = f } = cc in rw same (refl, refl)
-
-pub placed-ok : {T E : Type 0} (r : Result T E) (n : ℕ) (x : T) → Ok x ≡ placed-of r n → r ≡ Ok x
-placed-ok (Ok y) n x e = cc
-placed-ok (Err f) n x e = let z : _≡_ {A = ℕ} 0 1 = cc in absurd (omega arith)
-
-pub passed-ok : {T E F : Type 0} (r : Result T E) (f : E → F) (x : T) → passed r f (λ y. Ok y) ≡ Ok x → r ≡ Ok x
-passed-ok (Ok y) f x e = cc
-passed-ok (Err q) f x e = let z : _≡_ {A = ℕ} 0 1 = cc in absurd (omega arith)

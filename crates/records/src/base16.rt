@@ -31,7 +31,9 @@ pub(crate) fn decode(text: &[u8], out: &mut [u8]) -> Result<usize, Base16Fault>
             return Err(Base16Fault { octet: 2 * count });
         };
         let Some(lower) = hex_digit(*low) else {
-            return Err(Base16Fault { octet: 2 * count + 1 });
+            return Err(Base16Fault {
+                octet: 2 * count + 1,
+            });
         };
         out[count] = upper * 16 + lower;
         count += 1;

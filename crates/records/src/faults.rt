@@ -123,7 +123,10 @@ pub impl From<Placed<FieldCause>> for FieldFault as FieldFaultFromPlaced {
     ghost converts = { λ p r. r ≡ at-field (p .place) (p .fault) };
 
     fn from(it: Placed<FieldCause>) -> FieldFault {
-        FieldFault { field: it.place, cause: it.fault }
+        FieldFault {
+            field: it.place,
+            cause: it.fault,
+        }
     }
 }
 
@@ -139,6 +142,9 @@ pub impl From<Placed<RecordCause>> for RecordFault as RecordFaultFromPlaced {
     ghost converts = { λ p r. r ≡ at-record (p .place) (p .fault) };
 
     fn from(it: Placed<RecordCause>) -> RecordFault {
-        RecordFault { record: it.place, cause: it.fault }
+        RecordFault {
+            record: it.place,
+            cause: it.fault,
+        }
     }
 }

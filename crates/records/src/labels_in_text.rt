@@ -38,7 +38,10 @@ pub(crate) fn label_field(text: &[u8], field: usize) -> Result<LabelField, Field
     ensures { λ r. ⌜ r ≡ label-field (now (text .entry)) field ⌝ }
 {
     match read_label(text) {
-        Err(FieldCause::Tag(fault)) => Ok(Err(FieldFault { field, cause: FieldCause::Tag(fault) })),
+        Err(FieldCause::Tag(fault)) => Ok(Err(FieldFault {
+            field,
+            cause: FieldCause::Tag(fault),
+        })),
         read => Ok(Ok(at_place(read, field)?)),
     }
 }

@@ -1,10 +1,13 @@
 //! Reading a record.
 ghost use mathlib.Core.Path.{_≡_};
-ghost use mathlib.Core.List.{[], _∷_};
+ghost use Prim.Native.Nat.{_≤_};
+ghost use lib.ListN.{length};
+ghost use Rattle.std.specs.declared.result.Result.the-variants.{Ok};
+ghost use Rattle.records.specs.Faults.{passed, at-field};
 ghost use Rattle.records.specs.Fields.{fields-of, stray-from};
+ghost use Rattle.records.specs.Words.{word-of};
 ghost use Rattle.records.specs.Lines.{policy-record, session-record, request-record, with-one, with-two, by-fields, record-of, record-at};
 use crate::faults::CauseFromField;
-use crate::faults::FieldCause;
 use crate::faults::FieldFault;
 use crate::faults::FieldFaultFromPlaced;
 use crate::faults::RecordCause;
@@ -14,7 +17,6 @@ use crate::faults::at_place;
 use crate::fields::field_at;
 use crate::labels_in_text::label_field;
 use crate::numbers::number_field;
-use crate::values::PolicyName;
 use crate::values::Record;
 use crate::words::Word;
 use crate::words::read_policy_name;
@@ -22,6 +24,7 @@ use crate::words::read_word;
 use policies::Kind;
 
 const LONGEST: usize = 256;
+
 const QUOTE: u8 = b'"';
 
 // The first octet that is a quote or ends a line.
@@ -55,7 +58,11 @@ fn request_record(kind: Kind, session: &[u8], object: &[u8]) -> Result<Record, F
 {
     let session = number_field(session, 1)?;
     let object = number_field(object, 2)?;
-    Ok(Record::Request { kind, session, object })
+    Ok(Record::Request {
+        kind,
+        session,
+        object,
+    })
 }
 
 // A record of a word and one field more.
@@ -79,4 +86,53 @@ fn with_two(word: Word, first: &[u8], second: &[u8]) -> Result<Record, RecordCau
         Word::Request(kind) => Ok(request_record(kind, first, second)?),
         Word::Policy | Word::Object | Word::Close => Err(RecordCause::FieldCount),
     }
+}
+
+fn word_field(text: &[u8]) -> Result<Word, FieldFault>
+    ensures { λ r. ⌜ r ≡ passed (word-of (now (text .entry))) (at-field 0) (λ w. Ok w) ⌝ }
+{
+    Ok(at_place(read_word(text), 0)?)
+}
+
+// A record of its fields: a word, and one or two more.
+fn read_fields(line: &[u8]) -> Result<Record, RecordCause>
+    requires { ⌜ length (now line) ≤ 256 ⌝ }
+    ensures { λ r. ⌜ r ≡ by-fields (fields-of (now (line .entry))) ⌝ }
+{
+    let Some(first) = field_at(line, 0) else {
+        return Err(RecordCause::FieldCount);
+    };
+    let word = word_field(first)?;
+    let next = first.len() + 1;
+    let Some(second) = field_at(line, next) else {
+        return Err(RecordCause::FieldCount);
+    };
+    let after = next + second.len() + 1;
+    let Some(third) = field_at(line, after) else {
+        return with_one(word, second);
+    };
+    match field_at(line, after + third.len() + 1) {
+        Some(_) => Err(RecordCause::FieldCount),
+        None => with_two(word, second, third),
+    }
+}
+
+/// The record that a line is: at most 256 octets, with no quote and no end of a line.
+pub fn read_record(line: &[u8]) -> Result<Record, RecordCause>
+    ensures { λ r. ⌜ r ≡ record-of (now (line .entry)) ⌝ }
+{
+    if line.len() > LONGEST {
+        return Err(RecordCause::TooLong);
+    }
+    match stray_octet(line) {
+        Some(octet) => Err(RecordCause::Stray(octet)),
+        None => read_fields(line),
+    }
+}
+
+/// The same, with the place of the record in the input.
+pub fn read_record_at(line: &[u8], place: usize) -> Result<Record, RecordFault>
+    ensures { λ r. ⌜ r ≡ record-at (now (line .entry)) place ⌝ }
+{
+    Ok(at_place(read_record(line), place)?)
 }

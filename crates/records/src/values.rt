@@ -22,7 +22,14 @@ pub enum PolicyName {
 pub enum Record {
     Policy(PolicyName),
     Object(LabelField),
-    Session { clearance: LabelField, start: LabelField },
-    Request { kind: Kind, session: usize, object: usize },
+    Session {
+        clearance: LabelField,
+        start: LabelField,
+    },
+    Request {
+        kind: Kind,
+        session: usize,
+        object: usize,
+    },
     Close(usize),
 }

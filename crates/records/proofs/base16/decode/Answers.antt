@@ -13,10 +13,11 @@ loop-left-again c =
     let v : ℕ = c .in-Some .upper * 16 + c .in-Some-hex-digit .lower in
     let room : c .loop-left .count < length (c .loop-left .out) = search needs in
     let more = base16-more (2 * c .loop-left .count) (take (c .loop-left .count) (c .loop-left .out)) (c .loop-left .left .now) (c .in-Some .upper) (c .in-Some-hex-digit .lower)
-        long (c .in-Some .ensures tt) (c .in-Some-hex-digit .ensures tt) in
+    long (c .in-Some .ensures tt) (c .in-Some-hex-digit .ensures tt) in
     let twice : 2 * (c .loop-left .count + 1) ≡ 2 * c .loop-left .count + 2 = omega arith in
     let rest = take-rest (c .loop-left .left .now) 2 in
     let front = take-more-set (c .loop-left .out) (c .loop-left .count) v room in
-    let before = c .loop-left .inv .1 in
-    ( simp (take-rest, length-drop) (omega (arith, c .loop-left .inv .0))
-    , cc )
+    let before = c .loop-left .inv .1 in (
+      simp (take-rest, length-drop) (omega (arith, c .loop-left .inv .0)),
+      cc,
+    )

@@ -22,13 +22,14 @@ loop-to-again c =
 pub returns : need.returns
 returns c =
     let end : leading no-comma (drop (c .loop-to .to) (c .args .line .now)) ≡ 0 =
-        elim (c .loop-to-test .came)
-        [ then-loop-to-test·else-line-to-ne-COMMA w ↦
-            let stops : no-comma (getD (c .args .line .now) (c .loop-to .to) 0) ≡ false = grind (arith, tells) in
-            leading-drop-no no-comma (c .args .line .now) (c .loop-to .to) 0 (w .loop-to-test .taken) stops
-        | else-loop-to-test w ↦ leading-drop-all no-comma (c .args .line .now) (c .loop-to .to) (w .loop-to-test .left) ] in
+    elim (c .loop-to-test .came) [
+      | then-loop-to-test·else-line-to-ne-COMMA w ↦
+          let stops : no-comma (getD (c .args .line .now) (c .loop-to .to) 0) ≡ false = grind (arith, tells) in
+          leading-drop-no no-comma (c .args .line .now) (c .loop-to .to) 0 (w .loop-to-test .taken) stops
+      | else-loop-to-test w ↦ leading-drop-all no-comma (c .args .line .now) (c .loop-to .to) (w .loop-to-test .left)
+    ] in
     let long : c .loop-to .to - c .args .from ≡ leading no-comma (drop (c .args .from) (c .args .line .now)) = omega (arith, c .loop-to .inv .2) in
     let within : ltb (length (c .args .line .now)) (c .args .from) ≡ false = le-ltb _ _ (c .if-from-line .left) in
     let found : up-to-comma (c .args .line .now) (c .args .from) ≡ take (c .loop-to .to - c .args .from) (drop (c .args .from) (c .args .line .now)) =
-        ap (λ (n : ℕ). take n (drop (c .args .from) (c .args .line .now))) (sym long) in
+    ap (λ (n : ℕ). take n (drop (c .args .from) (c .args .line .now))) (sym long) in
     rw (within, found)

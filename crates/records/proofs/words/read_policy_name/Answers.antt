@@ -12,11 +12,11 @@ returns-then-is c =
 pub returns-then-is-2 : need.returns-then-is-2
 returns-then-is-2 c =
     let d : says (c .args .text .now) (codes "confidentiality") ≡ false = sym (c .is .ensures) ∙ c .if-is .left in
-    let e : says (c .args .text .now) (codes "integrity") ≡ true = sym (c .is-2 .ensures) ∙ c .if-is-2 .taken in
+    let e : says (c .args .text .now) (codes "integrity") ≡ true = sym (c .is-else-is .ensures) ∙ c .if-is-2 .taken in
     rw (d, e)
 
 pub returns-else-is-2 : need.returns-else-is-2
 returns-else-is-2 c =
     let d : says (c .args .text .now) (codes "confidentiality") ≡ false = sym (c .is .ensures) ∙ c .if-is .left in
-    let e : says (c .args .text .now) (codes "integrity") ≡ false = sym (c .is-2 .ensures) ∙ c .if-is-2 .left in
+    let e : says (c .args .text .now) (codes "integrity") ≡ false = sym (c .is-else-is .ensures) ∙ c .if-is-2 .left in
     rw (d, e)
