@@ -89,7 +89,7 @@ impl RecordCause {
         ensures { λ r. ⌜ r ≡ refusal-number self ⌝ }
     {
         match self {
-            RecordCause::Field(fault) => fault.number(),
+            RecordCause::Field(field) => field.number(),
             RecordCause::TooLong | RecordCause::Stray(_) | RecordCause::FieldCount => 10,
         }
     }

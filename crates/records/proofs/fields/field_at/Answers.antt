@@ -29,7 +29,7 @@ returns c =
       | else-loop-to-test w ↦ leading-drop-all no-comma (c .args .line .now) (c .loop-to .to) (w .loop-to-test .left)
     ] in
     let long : c .loop-to .to - c .args .from ≡ leading no-comma (drop (c .args .from) (c .args .line .now)) = omega (arith, c .loop-to .inv .2) in
-    let within : ltb (length (c .args .line .now)) (c .args .from) ≡ false = le-ltb _ _ (c .if-from-line .left) in
+    let within : ltb (length (c .args .line .now)) (c .args .from) ≡ false = le-ltb _ _ (omega arith) in
     let found : up-to-comma (c .args .line .now) (c .args .from) ≡ take (c .loop-to .to - c .args .from) (drop (c .args .from) (c .args .line .now)) =
     ap (λ (n : ℕ). take n (drop (c .args .from) (c .args .line .now))) (sym long) in
     rw (within, found)

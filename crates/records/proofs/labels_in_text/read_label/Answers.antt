@@ -15,10 +15,10 @@ pub returns-then-used-count : need.returns-then-used-count
 returns-then-used-count c =
     let d = c .in-Continue-count .ensures tt in
     let l = label-label (c .args .text .now) (c .decode .last .out) (c .in-Continue-count .count) _ _ (c .if-text-gt-MOST-DIGITS .left) (d .0) (d .1) (c .in-Continue-label .ensures tt) in
-    rw (l, lt-ltb _ _ (c .if-used-count .taken))
+    rw (l, lt-ltb (c .in-Continue-label .used) (c .in-Continue-count .count) (omega arith))
 
 pub returns : need.returns
 returns c =
     let d = c .in-Continue-count .ensures tt in
     let l = label-label (c .args .text .now) (c .decode .last .out) (c .in-Continue-count .count) _ _ (c .if-text-gt-MOST-DIGITS .left) (d .0) (d .1) (c .in-Continue-label .ensures tt) in
-    rw (l, le-ltb _ _ (c .if-used-count .left))
+    rw (l, le-ltb (c .in-Continue-label .used) (c .in-Continue-count .count) (omega arith))
