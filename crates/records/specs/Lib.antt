@@ -1,0 +1,5 @@
+pub mod Faults
+pub mod Fields
+pub mod Texts
+pub mod Words
+pub mod Lines

@@ -1,0 +1,35 @@
+//! What a record says.
+use crate::faults::FieldFault;
+use crate::faults::FieldFaultDebug;
+use crate::faults::FieldFaultPartialEq;
+use labels::GradeLabel;
+use labels::GradeLabelDebug;
+use labels::GradeLabelPartialEq;
+use policies::Kind;
+use policies::KindDebug;
+use policies::KindPartialEq;
+
+/// A label, or the fault of its tag, which counts only once the record is known to be in place.
+pub type LabelField = Result<GradeLabel, FieldFault>;
+
+#[derive(Clone, Copy, PartialEq, Eq, Debug)]
+pub enum PolicyName {
+    Confidentiality,
+    Integrity,
+}
+
+#[derive(Clone, Copy, PartialEq, Eq, Debug)]
+pub enum Record {
+    Policy(PolicyName),
+    Object(LabelField),
+    Session {
+        clearance: LabelField,
+        start: LabelField,
+    },
+    Request {
+        kind: Kind,
+        session: usize,
+        object: usize,
+    },
+    Close(usize),
+}

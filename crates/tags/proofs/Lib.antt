@@ -1,0 +1,3 @@
+pub mod Marks
+pub mod Steps
+pub mod Listed

@@ -1,0 +1,28 @@
+use crate::TagFault;
+use crate::TagFaultDebug;
+use crate::TagFaultPartialEq;
+use crate::read_tag;
+use labels::GradeLabel;
+use labels::GradeLabelDebug;
+use labels::GradeLabelPartialEq;
+use std::test::*;
+
+#[test]
+fn both_types_are_read() -> Result<(), Fail> {
+    let label = GradeLabel::from_map(2, &[0x80, 0x40]);
+    check_eq(read_tag(&[1, 6, 0, 2, 0x80, 0x40]), Ok((label, 6)))?;
+    check_eq(read_tag(&[2, 8, 0, 2, 0, 0, 0, 9]), Ok((label, 8)))
+}
+
+#[test]
+fn faults_name_their_octet() -> Result<(), Fail> {
+    check_eq(read_tag(&[]), Err(TagFault { octet: 0 })).note("no octet")?;
+    check_eq(read_tag(&[3, 4, 0, 2]), Err(TagFault { octet: 0 })).note("type 3")?;
+    check_eq(read_tag(&[2, 5, 0, 2, 0]), Err(TagFault { octet: 1 })).note("odd length")?;
+    check_eq(read_tag(&[1, 35, 0, 2]), Err(TagFault { octet: 1 })).note("length 35")?;
+    check_eq(read_tag(&[1, 4, 1, 2]), Err(TagFault { octet: 2 })).note("octet 2")?;
+    check_eq(
+        read_tag(&[2, 8, 0, 2, 0, 9, 0, 0]),
+        Err(TagFault { octet: 6 }),
+    ).note("falling")
+}
