@@ -1,7 +1,7 @@
 -- The lines of an input.
 use mathlib.Core.Bool.{Bool, cond, _&&_}
 use mathlib.Core.List.{List, [], _∷_, _++_}
-use Prim.Native.Nat.{ℕ, _+_, _≤_}
+use Prim.Native.Nat.{ℕ, _+_, _-_, _≤_}
 use lib.Dec.{eqb, ltb}
 use lib.ListN.{length, drop, getD}
 use Rattle.batch.specs.declared.lines.Lines.{Lines}
@@ -29,6 +29,10 @@ line-length (x ∷ (y ∷ rest)) = cond (breaks x y) 0 (1 + line-length (y ∷ r
 -- the lines that were not handed out
 abbrev pub lines-left : Lines → List (List ℕ)
 lines-left l = lines-of [] (drop (l .from) (l .input .now))
+
+-- how many octets come after those that were handed out
+abbrev pub octets-left : Lines → ℕ
+octets-left l = length (l .input .now) - l .from
 
 -- as many lines as octets at most were handed out, and no octet past the end
 pub record Within (l : Lines) : Type 0 where

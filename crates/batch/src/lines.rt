@@ -4,7 +4,7 @@ ghost use mathlib.Core.List.{_∷_, []};
 ghost use Prim.Native.Nat.{_+_, _<_, _≤_};
 ghost use lib.ListN.{length, drop};
 ghost use Rattle.std.specs.Options.{Cases};
-ghost use Rattle.batch.specs.Lines.{breaks-at, line-length, lines-of, lines-left, Within};
+ghost use Rattle.batch.specs.Lines.{breaks-at, line-length, lines-of, lines-left, octets-left, Within};
 
 const CR: u8 = 13;
 
@@ -61,7 +61,7 @@ impl<'a> Lines<'a> {
         ensures left { λ r. ⌜ Cases r (lines-left (now (self .entry)) ≡ []) (λ line. lines-left (now (self .entry)) ≡ line .now ∷ lines-left (now (self .exit))) ⌝ }
         ensures taken { λ r. ⌜ Cases r (now (self .exit) .taken ≡ now (self .entry) .taken) (λ _. now (self .exit) .taken ≡ now (self .entry) .taken + 1) ⌝ }
         ensures within { λ _. ⌜ Within (now (self .exit)) ⌝ }
-        ensures on { λ r. ⌜ Cases r (now (self .entry) ≡ now (self .exit)) (λ _. now (self .entry) .from < now (self .exit) .from) ⌝ }
+        ensures on { λ r. ⌜ Cases r (now (self .exit) ≡ now (self .entry)) (λ _. octets-left (now (self .exit)) < octets-left (now (self .entry))) ⌝ }
     {
         let input = self.input;
         let from = self.from;

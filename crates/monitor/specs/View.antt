@@ -66,6 +66,10 @@ row-limit = 1024
 abbrev pub place-limit : ℕ
 place-limit = 65536
 
+-- a monitor over what a caller lends, as it is made
+abbrev pub made-over : {L M : Type 0} → List L → List (SessionRow M) → List Entry → View L M
+made-over labels rows places = fresh (take object-limit labels) (take row-limit rows) (take place-limit places)
+
 module _ {L M : Type 0} (model : Model L M) (v : View L M) where
   -- an enrolment finds a free row, and the marks that the session starts with
   abbrev pub enrolling : L → L → Result M Refusal

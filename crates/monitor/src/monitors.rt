@@ -2,11 +2,10 @@
 ghost use mathlib.Core.Path.{_≡_};
 ghost use mathlib.Core.List.{reverse};
 ghost use Prim.Native.Nat.{min};
-ghost use lib.ListN.{length, take};
 ghost use Rattle.std.specs.Finite.{nth};
 ghost use Rattle.std.specs.Options.{okOr};
 ghost use Rattle.reference.specs.declared.refusals.Refusal.the-variants as refusal;
-ghost use Rattle.monitor.specs.View.{view, fresh, judging, enrol-answer, enrol-after, request-answer, request-after, close-answer, close-after, row-answer, object-limit, row-limit, place-limit};
+ghost use Rattle.monitor.specs.View.{view, made-over, judging, enrol-answer, enrol-after, request-answer, request-after, close-answer, close-after, row-answer};
 use crate::tables::SessionRow;
 use crate::tables::SessionTable;
 use log::Log;
@@ -58,7 +57,7 @@ impl<'a, P: Policy> Monitor<'a, P> {
         rows: &'a mut [SessionRow<P::Marks>],
         places: &'a mut [Entry],
     ) -> Monitor<'a, P>
-        ensures { λ r. ⌜ view r ≡ fresh (take object-limit (now (objects .entry))) (take row-limit (now (rows .entry))) (take place-limit (now (places .entry))) ⌝ }
+        ensures { λ r. ⌜ view r ≡ made-over (now (objects .entry)) (now (rows .entry)) (now (places .entry)) ⌝ }
     {
         let object_count = at_most(objects.len(), OBJECT_LIMIT);
         let row_count = at_most(rows.len(), ROW_LIMIT);

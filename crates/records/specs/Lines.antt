@@ -76,7 +76,8 @@ abbrev pub unless-stray : Option ℕ → List ℕ → Result Record RecordCause
 unless-stray (Some n) xs = Err (Stray n)
 unless-stray None xs = by-fields (fields-of xs)
 
-abbrev pub record-of : List ℕ → Result Record RecordCause
+-- shut, since a client goes by what it is, and not by how it is read
+unfoldable pub record-of : List ℕ → Result Record RecordCause
 record-of xs = cond (ltb 256 (length xs)) (Err TooLong) (unless-stray (stray-from 0 xs) xs)
 
 -- the record at a place of the input

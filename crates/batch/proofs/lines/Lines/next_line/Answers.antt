@@ -29,5 +29,5 @@ returns c =
       left = line-at xs (lines .from) (c .line-end-end .result) (c .min-self .result) (c .line-end-end .ensures .value) (c .if-from-input .left) (c .line-end-end .ensures .within) next;
       taken = refl;
       within = record { counted = omega (arith, c .pre .counted, on .0); inside = on .1 };
-      on = on .0;
+      on = omega (arith, on .0, c .if-from-input .left);
     }
