@@ -1,6 +1,8 @@
 //! Batches: records in, calls of a monitor, records out.
 mod answers;
+mod batches;
 mod lines;
+mod loading;
 mod serving;
 
 pub use answers::Answer;

@@ -59,7 +59,7 @@ fn serve<P: Policy<Label = GradeLabel>>(
 }
 
 // Carries out the record of a line.
-fn serve_line<P: Policy<Label = GradeLabel>>(
+pub(crate) fn serve_line<P: Policy<Label = GradeLabel>>(
     monitor: &mut Monitor<'_, P>,
     line: &[u8],
 ) -> Result<Answer, BatchRefusal>
@@ -71,7 +71,7 @@ fn serve_line<P: Policy<Label = GradeLabel>>(
 }
 
 // Carries out the records of the lines that are left, and writes what each comes to.
-fn serve_lines<P: Policy<Label = GradeLabel>>(
+pub(crate) fn serve_lines<P: Policy<Label = GradeLabel>>(
     heap: Global,
     monitor: &mut Monitor<'_, P>,
     lines: &mut Lines<'_>,

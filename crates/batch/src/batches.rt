@@ -1,0 +1,125 @@
+//! A whole batch: from its octets to those that are written.
+ghost use mathlib.Core.Path.{_≡_};
+ghost use mathlib.Core.List.{_++_, _∷_, []};
+ghost use Prim.Native.Nat.{_+_};
+ghost use Rattle.std.specs.Of.Vec.{vec-items};
+ghost use Rattle.std.specs.Vec.{made};
+ghost use Rattle.monitor.specs.View.{made-over};
+ghost use Rattle.records.specs.Lines.{record-of};
+ghost use Rattle.batch.specs.Lines.{lines-left, Within};
+ghost use Rattle.batch.specs.Serving.{serving};
+ghost use Rattle.batch.specs.Loading.{loading};
+ghost use Rattle.batch.specs.Batch.{blank-row, blank-rows, blank-places, choice, under, batch-of};
+use crate::answers::Answer;
+use crate::answers::BatchRefusal;
+use crate::answers::RefusalFromRecord;
+use crate::answers::put;
+use crate::lines::Lines;
+use crate::loading::Loaded;
+use crate::loading::load_line;
+use crate::serving::serve_line;
+use crate::serving::serve_lines;
+use labels::GradeLabel;
+use labels::GradeOrder;
+use labels::LabelOrder;
+use monitor::Monitor;
+use monitor::SessionRow;
+use policies::Integrity;
+use policies::IntegrityPolicy;
+use policies::Kind;
+use policies::Policy;
+use policies::Secrecy;
+use policies::SecrecyPolicy;
+use policies::SixLabels;
+use policies::Verdict;
+use records::PolicyName;
+use records::Record;
+use records::read_record;
+use reference::Entry;
+use reference::SessionState;
+use std::alloc::AllocError;
+use std::alloc::Global;
+
+const SESSION_PLACES: usize = 64;
+
+const LOG_PLACES: usize = 1024;
+
+const BLANK_ENTRY: Entry = Entry {
+    session: 0,
+    object: 0,
+    kind: Kind::Read,
+    verdict: Verdict::History,
+};
+
+fn blank_row() -> SessionRow<SixLabels<GradeLabel>>
+    ensures { λ r. ⌜ r ≡ blank-row ⌝ }
+{
+    let low = GradeLabel::low();
+    SessionRow {
+        marks: SixLabels {
+            clearance: low,
+            current: low,
+            in_low: low,
+            in_high: low,
+            out_low: low,
+            out_high: low,
+        },
+        state: SessionState::Closed,
+    }
+}
+
+fn blank_rows() -> [SessionRow<SixLabels<GradeLabel>>; SESSION_PLACES]
+    ensures { λ r. ⌜ r ≡ blank-rows ⌝ }
+{
+    [blank_row(); SESSION_PLACES]
+}
+
+fn blank_places() -> [Entry; LOG_PLACES]
+    ensures { λ r. ⌜ r ≡ blank-places ⌝ }
+{
+    [BLANK_ENTRY; LOG_PLACES]
+}
+
+// Makes the monitor for the line that starts the first session, and carries out that line and all after it.
+fn serve_from<'a, P: Policy<Label = GradeLabel>>(
+    heap: Global,
+    objects: &'a [GradeLabel],
+    rows: &'a mut [SessionRow<P::Marks>],
+    places: &'a mut [Entry],
+    line: &[u8],
+    lines: &mut Lines<'_>,
+    out: &mut Vec<u8>,
+) -> Result<(), AllocError>
+    requires { ⌜ Within (now lines) ⌝ }
+    ensures { λ r. ⌜ made r (λ _. vec-items (now (out .exit)) ≡ vec-items (now (out .entry)) ++ serving (P·Policy .model) (made-over (now (objects .entry)) (now (rows .entry)) (now (places .entry))) (now (lines .entry) .taken) (now (line .entry) ∷ lines-left (now (lines .entry)))) ⌝ }
+{
+    let mut monitor = Monitor::<P>::new(objects, rows, places);
+    let outcome = serve_line(&mut monitor, line);
+    put(heap, out, lines.taken, outcome)?;
+    serve_lines(heap, &mut monitor, lines, out)
+}
+
+// Takes the lines that are left, under a policy: objects, until a line starts the first session.
+fn load_lines<P: Policy<Label = GradeLabel, Marks = SixLabels<GradeLabel>>>(
+    heap: Global,
+    lines: &mut Lines<'_>,
+    out: &mut Vec<u8>,
+) -> Result<(), AllocError>
+    requires { ⌜ Within (now lines) ⌝ }
+    ensures { λ r. ⌜ made r (λ _. vec-items (now (out .exit)) ≡ vec-items (now (out .entry)) ++ loading (P·Policy .model) blank-rows blank-places [] (now (lines .entry) .taken + 1) (lines-left (now (lines .entry)))) ⌝ }
+{
+    let mut objects = Vec::new(heap);
+    while let Some(line) = lines.next_line() {
+        let loaded = load_line::<P>(&mut objects, line)?;
+        match loaded {
+            Loaded::Came(outcome) => put(heap, out, lines.taken, outcome)?,
+            Loaded::Starts => {
+                let mut rows = blank_rows();
+                let mut places = blank_places();
+                let objects = objects.as_slice();
+                return serve_from::<P>(heap, objects, &mut rows, &mut places, line, lines, out);
+            }
+        }
+    }
+    Ok(())
+}
