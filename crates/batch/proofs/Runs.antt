@@ -15,7 +15,11 @@ use Rattle.records.specs.declared.values.Record.{Record}
 use Rattle.records.specs.declared.values.Record.the-variants.{Policy, Object, Session, Request, Close}
 use Rattle.records.specs.Lines.{record-of}
 use Rattle.batch.specs.Answers.{Outcome, output-of}
+use Rattle.batch.specs.Batch.{choice, under, from-choice, waiting}
 use Rattle.batch.specs.Loading.{loaded-of, load-after, from-loaded, loading}
+use Rattle.batch.specs.declared.answers.Answer.the-variants as answered
+use Rattle.batch.specs.declared.answers.BatchRefusal.{BatchRefusal}
+use Rattle.records.specs.declared.values.PolicyName.{PolicyName}
 use Rattle.batch.specs.declared.loading.Loaded.{Loaded}
 use Rattle.batch.specs.declared.loading.Loaded.the-variants.{Starts, Came}
 use Rattle.batch.specs.Serving.{line-answer, line-after, serving}
@@ -69,3 +73,21 @@ loading-starts {M} model rows rows′ places places′ objects objects′ taken 
     ∙ ap (λ (t : ℕ). serving model (made-over objects rows places) t (line ∷ left′)) et
     ∙ ap (λ (o : Loaded). from-loaded o (taken + 1) (serving model (made-over objects rows places) (taken + 1) (line ∷ left′)) (loading model rows places (load-after objects (record-of line)) (taken + 1 + 1) left′)) eo
     ∙ sym (ap (loading model rows places objects (taken + 1)) el)
+
+-- a line before the policy, and those after it
+waiting-line : (taken taken′ : ℕ) (line : List ℕ) (left left′ : List (List ℕ)) (r : Result PolicyName BatchRefusal)
+    → left ≡ line ∷ left′ → taken′ ≡ taken + 1 → r ≡ choice (record-of line) → from-choice r taken′ left′ (waiting (taken′ + 1) left′) ≡ waiting (taken + 1) left
+waiting-line taken taken′ line left left′ r el et er =
+    ap (λ (t : ℕ). from-choice r t left′ (waiting (t + 1) left′)) et
+    ∙ ap (λ (c : Result PolicyName BatchRefusal). from-choice c (taken + 1) left′ (waiting (taken + 1 + 1) left′)) er
+    ∙ sym (ap (waiting (taken + 1)) el)
+
+pub waiting-more : (taken taken′ : ℕ) (line : List ℕ) (left left′ : List (List ℕ)) (refusal : BatchRefusal)
+    → left ≡ line ∷ left′ → taken′ ≡ taken + 1 → Err refusal ≡ choice (record-of line)
+    → output-of taken′ (Err refusal) ++ waiting (taken′ + 1) left′ ≡ waiting (taken + 1) left
+waiting-more taken taken′ line left left′ refusal el et er = waiting-line taken taken′ line left left′ (Err refusal) el et er
+
+pub waiting-chosen : (taken taken′ : ℕ) (line : List ℕ) (left left′ : List (List ℕ)) (name : PolicyName)
+    → left ≡ line ∷ left′ → taken′ ≡ taken + 1 → Ok name ≡ choice (record-of line)
+    → output-of taken′ (Ok answered.Policy) ++ under name (taken′ + 1) left′ ≡ waiting (taken + 1) left
+waiting-chosen taken taken′ line left left′ name el et er = waiting-line taken taken′ line left left′ (Ok name) el et er

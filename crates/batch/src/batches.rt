@@ -9,7 +9,7 @@ ghost use Rattle.records.specs.Lines.{record-of};
 ghost use Rattle.batch.specs.Lines.{lines-left, Within};
 ghost use Rattle.batch.specs.Serving.{serving};
 ghost use Rattle.batch.specs.Loading.{loading};
-ghost use Rattle.batch.specs.Batch.{blank-row, blank-rows, blank-places, choice, under, batch-of};
+ghost use Rattle.batch.specs.Batch.{blank-row, blank-rows, blank-places, choice, under, waiting, batch-of};
 use crate::answers::Answer;
 use crate::answers::BatchRefusal;
 use crate::answers::RefusalFromRecord;
@@ -122,4 +122,58 @@ fn load_lines<P: Policy<Label = GradeLabel, Marks = SixLabels<GradeLabel>>>(
         }
     }
     Ok(())
+}
+
+// The policy that a line chooses.
+fn choose(line: &[u8]) -> Result<PolicyName, BatchRefusal>
+    ensures { λ r. ⌜ r ≡ choice (record-of (now (line .entry))) ⌝ }
+{
+    match read_record(line)? {
+        Record::Policy(name) => Ok(name),
+        _ => Err(BatchRefusal::OutOfPlace),
+    }
+}
+
+// Takes the lines that are left, under the policy of this name.
+fn follow(
+    heap: Global,
+    name: PolicyName,
+    lines: &mut Lines<'_>,
+    out: &mut Vec<u8>,
+) -> Result<(), AllocError>
+    requires { ⌜ Within (now lines) ⌝ }
+    ensures { λ r. ⌜ made r (λ _. vec-items (now (out .exit)) ≡ vec-items (now (out .entry)) ++ under name (now (lines .entry) .taken + 1) (lines-left (now (lines .entry)))) ⌝ }
+{
+    match name {
+        PolicyName::Confidentiality => load_lines::<Secrecy<GradeLabel>>(heap, lines, out),
+        PolicyName::Integrity => load_lines::<Integrity<GradeLabel>>(heap, lines, out),
+    }
+}
+
+// Takes lines until one chooses the policy, and then all others under it.
+fn wait_lines(heap: Global, lines: &mut Lines<'_>, out: &mut Vec<u8>) -> Result<(), AllocError>
+    requires { ⌜ Within (now lines) ⌝ }
+    ensures { λ r. ⌜ made r (λ _. vec-items (now (out .exit)) ≡ vec-items (now (out .entry)) ++ waiting (now (lines .entry) .taken + 1) (lines-left (now (lines .entry)))) ⌝ }
+{
+    while let Some(line) = lines.next_line() {
+        let chosen = choose(line);
+        match chosen {
+            Ok(name) => {
+                put(heap, out, lines.taken, Ok(Answer::Policy))?;
+                return follow(heap, name, lines, out);
+            }
+            Err(refusal) => put(heap, out, lines.taken, Err(refusal))?,
+        }
+    }
+    Ok(())
+}
+
+/// Carries out the records of an input, and makes the octets that are written for them: one record for each.
+pub fn run_batch(heap: Global, input: &[u8]) -> Result<Vec<u8>, AllocError>
+    ensures { λ r. ⌜ made r (λ v. vec-items v ≡ batch-of (now (input .entry))) ⌝ }
+{
+    let mut out = Vec::new(heap);
+    let mut lines = Lines::new(input);
+    wait_lines(heap, &mut lines, &mut out)?;
+    Ok(out)
 }

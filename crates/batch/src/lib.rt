@@ -7,3 +7,4 @@ mod serving;
 
 pub use answers::Answer;
 pub use answers::BatchRefusal;
+pub use batches::run_batch;

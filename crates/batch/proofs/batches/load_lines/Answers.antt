@@ -13,8 +13,7 @@ use Rattle.batch.proofs.batches.load_lines.Needs as need
 
 pub loop-line-again : need.loop-line-again
 loop-line-again g c =
-    let d = c .in-Continue-loaded .ensures tt in
-    (
+    let d = c .in-Continue-loaded .ensures tt in (
       c .in-Some .ensures tt .within,
       wrote (vec-items (c .loop-line .out)) (vec-items (c .put .last .out)) _ _ _ _ (c .in-Continue-put .ensures tt)
           (loading-more (g .P·Policy .model) blank-rows blank-places (vec-items (c .loop-line .objects)) (vec-items (c .load-line .last .objects))
