@@ -16,7 +16,7 @@ use std::alloc::Global;
 
 /// What an accepted record did.
 #[derive(Clone, Copy)]
-pub enum Answer {
+pub(crate) enum Answer {
     /// The policy is chosen.
     Policy,
     /// An object was added, with this number.
@@ -31,7 +31,7 @@ pub enum Answer {
 
 /// Why a record is refused.
 #[derive(Clone, Copy)]
-pub enum BatchRefusal {
+pub(crate) enum BatchRefusal {
     /// The record is wrong, or the tag of one of its labels.
     Record(RecordCause),
     /// The record is out of place.
@@ -72,14 +72,14 @@ const NO_PLACE: u8 = 5;
 
 impl BatchRefusal {
     /// The number by which the refusal is known.
-    pub fn number(self) -> u8
+    pub(crate) fn number(self) -> u8
         ensures { λ r. ⌜ r ≡ refusal-number self ⌝ }
     {
         match self {
-            BatchRefusal::Record(cause) => cause.number(),
+            BatchRefusal::Record(fault) => fault.number(),
             BatchRefusal::OutOfPlace => OUT_OF_PLACE,
             BatchRefusal::NoObjectPlace => NO_PLACE,
-            BatchRefusal::Call(refusal) => refusal.number(),
+            BatchRefusal::Call(call) => call.number(),
         }
     }
 }

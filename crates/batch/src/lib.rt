@@ -5,6 +5,4 @@ mod lines;
 mod loading;
 mod serving;
 
-pub use answers::Answer;
-pub use answers::BatchRefusal;
 pub use batches::run_batch;
