@@ -65,27 +65,39 @@ impl<L: LabelOrder> LabelRange<L> {
         }
     }
 
+    // The floor after a read: it rises also where the current label stays.
+    fn raised(self, label: L) -> L
+        ensures { λ r. ⌜ r ≡ order .join (self .floor) label ⌝ }
+    {
+        self.floor.join(label)
+    }
+
+    // The ceiling after a write.
+    fn lowered(self, label: L) -> L
+        ensures { λ r. ⌜ r ≡ order .meet (self .ceiling) label ⌝ }
+    {
+        self.ceiling.meet(label)
+    }
+
     fn moved(self, label: L, kind: Kind) -> LabelRange<L>
         ensures { λ r. ⌜ r ≡ moved order self label kind ⌝ }
     {
         match kind {
             Kind::Read => LabelRange {
-                clearance: self.clearance,
                 current: self.current.join(label),
-                ceiling: self.ceiling,
-                floor: self.floor.join(label),
+                floor: self.raised(label),
+                ..self
             },
             Kind::Write => LabelRange {
-                clearance: self.clearance,
                 current: self.current.meet(label),
-                ceiling: self.ceiling.meet(label),
-                floor: self.floor,
+                ceiling: self.lowered(label),
+                ..self
             },
             Kind::Both => LabelRange {
-                clearance: self.clearance,
                 current: label,
-                ceiling: self.ceiling.meet(label),
-                floor: self.floor.join(label),
+                ceiling: self.lowered(label),
+                floor: self.raised(label),
+                ..self
             },
         }
     }
