@@ -17,7 +17,7 @@ use Rattle.labels.specs.declared.grades.GradeLabel.{GradeLabel}
 use Rattle.tags.specs.declared.faults.TagFault.{TagFault}
 use Rattle.tags.specs.Tag.{tag-of}
 use Rattle.records.specs.declared.faults.FieldCause.the-variants.{Tag}
-use Rattle.records.specs.Fields.{stray-from}
+use Rattle.records.specs.Fields.{stray, stray-from}
 use Rattle.records.specs.Texts.{digits-from, number-of, base16, is-hex, hex-value, hex-digit, written-label}
 use Rattle.records.specs.Faults.{at-field, placed-of, passed}
 use Rattle.records.specs.declared.faults.Placed.{Placed}
@@ -39,12 +39,11 @@ pub number-digits : (xs : List ℕ) → 0 < length xs → (length xs ≤ 1) ⊎ 
 number-digits xs h w = grind (arith, tells)
 
 -- the search for a stray octet
-pub stray-found : (i : ℕ) (xs : List ℕ) → i < length xs → (getD xs i 0 ≡ 34) ⊎ ((getD xs i 0 ≡ 13) ⊎ (getD xs i 0 ≡ 10)) → stray-from i (drop i xs) ≡ Some i
-stray-found i xs h w = rw (drop-more xs i 0 h) (grind (arith, tells))
+pub stray-found : (i : ℕ) (xs : List ℕ) → i < length xs → stray (getD xs i 0) ≡ true → stray-from i (drop i xs) ≡ Some i
+stray-found i xs h e = rw (drop-more xs i 0 h, e)
 
-pub stray-more : (i : ℕ) (xs : List ℕ) → i < length xs → (getD xs i 0 ≡ 34 → ⊥) → (getD xs i 0 ≡ 13 → ⊥) → (getD xs i 0 ≡ 10 → ⊥)
-    → stray-from i (drop i xs) ≡ stray-from (i + 1) (drop (i + 1) xs)
-stray-more i xs h a b c = rw (drop-more xs i 0 h) (grind (arith, tells))
+pub stray-more : (i : ℕ) (xs : List ℕ) → i < length xs → stray (getD xs i 0) ≡ false → stray-from i (drop i xs) ≡ stray-from (i + 1) (drop (i + 1) xs)
+stray-more i xs h e = rw (drop-more xs i 0 h, e)
 
 pub stray-end : (i : ℕ) (xs : List ℕ) → length xs ≤ i → stray-from i (drop i xs) ≡ None
 stray-end i xs h = rw (drop-all i xs h)

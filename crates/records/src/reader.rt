@@ -4,7 +4,7 @@ ghost use Prim.Native.Nat.{_≤_};
 ghost use lib.ListN.{length};
 ghost use Rattle.std.specs.declared.result.Result.the-variants.{Ok};
 ghost use Rattle.records.specs.Faults.{passed, at-field};
-ghost use Rattle.records.specs.Fields.{fields-of, stray-from};
+ghost use Rattle.records.specs.Fields.{fields-of, stray, stray-from};
 ghost use Rattle.records.specs.Words.{word-of};
 ghost use Rattle.records.specs.Lines.{policy-record, session-record, request-record, with-one, with-two, by-fields, record-of, record-at};
 use crate::faults::CauseFromField;
@@ -27,12 +27,19 @@ const LONGEST: usize = 256;
 
 const QUOTE: u8 = b'"';
 
-// The first octet that is a quote or ends a line.
+// Whether an octet is a quote or ends a line.
+fn is_stray(octet: u8) -> bool
+    ensures { λ r. ⌜ r ≡ stray octet ⌝ }
+{
+    octet == QUOTE || octet == b'\r' || octet == b'\n'
+}
+
+// The first stray octet of a record.
 fn stray_octet(line: &[u8]) -> Option<usize>
     ensures { λ r. ⌜ r ≡ stray-from 0 (now (line .entry)) ⌝ }
 {
     for (at, octet) in line.iter().enumerate() {
-        if *octet == QUOTE || *octet == b'\r' || *octet == b'\n' {
+        if is_stray(*octet) {
             return Some(at);
         }
     }

@@ -1,18 +1,14 @@
-use mathlib.Core.Path.{_≡_, sym, _∙_}
-use mathlib.Core.Logic.{_⊎_}
-use lib.ListN.{getD}
-use borrow.Author.Needs.{needs}
+use mathlib.Core.Path.{sym, _∙_}
 use Rattle.records.proofs.Steps.{stray-found, stray-more, stray-end}
 use Rattle.records.proofs.reader.stray_octet.Needs as need
 
-pub returns-then-octet-eq-QUOTE : need.returns-then-octet-eq-QUOTE
-returns-then-octet-eq-QUOTE c =
-    let w : (getD (c .args .line .now) (c .loop-at .at) 0 ≡ 34) ⊎ ((getD (c .args .line .now) (c .loop-at .at) 0 ≡ 13) ⊎ (getD (c .args .line .now) (c .loop-at .at) 0 ≡ 10)) = search needs in
-    sym (c .loop-at .inv ∙ stray-found (c .loop-at .at) (c .args .line .now) (c .loop-at-test .taken) w)
+pub returns-then-is-stray : need.returns-then-is-stray
+returns-then-is-stray c =
+    sym (c .loop-at .inv ∙ stray-found (c .loop-at .at) (c .args .line .now) (c .loop-at-test .taken) (sym (c .is-stray .ensures) ∙ c .if-is-stray .taken))
 
 pub loop-at-again : need.loop-at-again
 loop-at-again c =
-    c .loop-at .inv ∙ stray-more (c .loop-at .at) (c .args .line .now) (c .loop-at-test .taken) (search needs) (search needs) (search needs)
+    c .loop-at .inv ∙ stray-more (c .loop-at .at) (c .args .line .now) (c .loop-at-test .taken) (sym (c .is-stray .ensures) ∙ c .if-is-stray .left)
 
 pub returns : need.returns
 returns c = sym (c .loop-at .inv ∙ stray-end (c .loop-at .at) (c .args .line .now) (c .loop-at-test .left))
