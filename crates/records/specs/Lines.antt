@@ -80,6 +80,18 @@ unless-stray None xs = by-fields (fields-of xs)
 unfoldable pub record-of : List ℕ → Result Record RecordCause
 record-of xs = cond (ltb 256 (length xs)) (Err TooLong) (unless-stray (stray-from 0 xs) xs)
 
--- the record at a place of the input
+-- the first tag fault of a record's labels
+abbrev pub tags-of : Record → Result (Unit {0}) FieldFault
+tags-of (Policy p) = Ok tt
+tags-of (Object l) = passed l (λ f. f) (λ _. Ok tt)
+tags-of (Session c s) = passed c (λ f. f) (λ _. passed s (λ f. f) (λ _. Ok tt))
+tags-of (Request k s o) = Ok tt
+tags-of (Close s) = Ok tt
+
+-- the record of a line, with right tags
+abbrev pub whole-record : Result Record RecordCause → Result Record RecordCause
+whole-record r = passed r (λ c. c) (λ x. passed (tags-of x) Field (λ _. Ok x))
+
+-- the same at a place of the input
 abbrev pub record-at : List ℕ → ℕ → Result Record RecordFault
-record-at xs place = passed (record-of xs) (at-record place) (λ r. Ok r)
+record-at xs place = passed (whole-record (record-of xs)) (at-record place) (λ r. Ok r)

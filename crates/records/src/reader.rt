@@ -6,7 +6,7 @@ ghost use Rattle.std.specs.declared.result.Result.the-variants.{Ok};
 ghost use Rattle.records.specs.Faults.{passed, at-field};
 ghost use Rattle.records.specs.Fields.{fields-of, stray, stray-from};
 ghost use Rattle.records.specs.Words.{word-of};
-ghost use Rattle.records.specs.Lines.{policy-record, session-record, request-record, with-one, with-two, by-fields, record-of, record-at};
+ghost use Rattle.records.specs.Lines.{policy-record, session-record, request-record, with-one, with-two, by-fields, record-of, tags-of, whole-record, record-at};
 use crate::faults::CauseFromField;
 use crate::faults::FieldFault;
 use crate::faults::FieldFaultFromPlaced;
@@ -137,9 +137,35 @@ pub fn read_record(line: &[u8]) -> Result<Record, RecordCause>
     }
 }
 
-/// The same, with the place of the record in the input.
+// Whether the tags of a record's labels are right.
+fn check_tags(record: Record) -> Result<(), FieldFault>
+    ensures { λ r. ⌜ r ≡ tags-of «record» ⌝ }
+{
+    match record {
+        Record::Object(label) => {
+            label?;
+        }
+        Record::Session { clearance, start } => {
+            clearance?;
+            start?;
+        }
+        Record::Policy(_) | Record::Request { .. } | Record::Close(_) => {}
+    }
+    Ok(())
+}
+
+// The record that a line is, with right tags.
+fn read_whole(line: &[u8]) -> Result<Record, RecordCause>
+    ensures { λ r. ⌜ r ≡ whole-record (record-of (now (line .entry))) ⌝ }
+{
+    let record = read_record(line)?;
+    check_tags(record)?;
+    Ok(record)
+}
+
+/// The record at a place of the input, from 1. A fault of a tag is passed up too, with its field and its record.
 pub fn read_record_at(line: &[u8], place: usize) -> Result<Record, RecordFault>
     ensures { λ r. ⌜ r ≡ record-at (now (line .entry)) place ⌝ }
 {
-    Ok(at_place(read_record(line), place)?)
+    Ok(at_place(read_whole(line), place)?)
 }

@@ -7,8 +7,12 @@ use crate::RecordCause;
 use crate::RecordCauseDebug;
 use crate::RecordCausePartialEq;
 use crate::RecordDebug;
+use crate::RecordFault;
+use crate::RecordFaultDebug;
+use crate::RecordFaultPartialEq;
 use crate::RecordPartialEq;
 use crate::read_record;
+use crate::read_record_at;
 use labels::GradeLabel;
 use policies::Kind;
 use std::test::*;
@@ -39,7 +43,12 @@ fn records_are_read() -> Result<(), Fail> {
     check_eq(
         read_record(b"object,0104000101"),
         Ok(Record::Object(Err(after_tag))),
-    )
+    )?;
+    let whole = RecordFault {
+        record: 7,
+        cause: RecordCause::Field(after_tag),
+    };
+    check_eq(read_record_at(b"object,0104000101", 7), Err(whole)).note("tag, field and record")
 }
 
 #[test]

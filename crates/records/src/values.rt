@@ -12,12 +12,14 @@ use policies::KindPartialEq;
 /// A label, or the fault of its tag, which counts only once the record is known to be in place.
 pub type LabelField = Result<GradeLabel, FieldFault>;
 
+/// The policies that a batch can be run under. Confidentiality is the records' word for secrecy.
 #[derive(Clone, Copy, PartialEq, Eq, Debug)]
 pub enum PolicyName {
     Confidentiality,
     Integrity,
 }
 
+/// A record of a right form.
 #[derive(Clone, Copy, PartialEq, Eq, Debug)]
 pub enum Record {
     Policy(PolicyName),

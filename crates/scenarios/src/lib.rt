@@ -28,6 +28,7 @@ mod tests {
     use reference::RefusalPartialEq;
     use reference::Request;
     use reference::SessionState;
+    use std::mem::size_of;
     use std::test::*;
 
     fn plain(grade: u8) -> GradeLabel {
@@ -82,6 +83,11 @@ mod tests {
             plain(5),
             plain(6),
         ]
+    }
+
+    #[test]
+    fn a_label_takes_32_octets() -> Result<(), Fail> {
+        check_eq(size_of::<GradeLabel>(), 32)
     }
 
     #[test]
