@@ -1,9 +1,8 @@
-use mathlib.Core.Path.{ap, _∙_}
 use Prim.Native.Nat.{_<_}
 use native.Mathlib.Omega.{arith}
-use lib.ListN.{length, take, drop}
-use lib.Seq.{take-set-lt}
-use Rattle.std.proofs.shelf.Lists.{length-take, length-set, drop-set-lt}
+use Rattle.std.proofs.shelf.Lists.{length-take}
+use Rattle.monitor.specs.Rows.{row}
+use Rattle.monitor.proofs.Views.{put-rows}
 use Rattle.monitor.proofs.tables.SessionTable.put.Needs as need
 
 pub put-row-requires : need.put-row-requires
@@ -11,11 +10,6 @@ put-row-requires g c κs = omega (arith, c .pre, length-take (c .args .self .now
 
 pub returns : need.returns
 returns g c =
-    let rows = c .args .self .now .rows .now in
-    let n = c .args .self .now .enrolled in
-    let h : c .args .session < n = omega (arith, c .pre, length-take n rows) in
-    record {
-      sessions = ap (take n) (c .put-row .ensures) ∙ take-set-lt n rows (c .args .session) _ h;
-      spare = ap (drop n) (c .put-row .ensures) ∙ drop-set-lt n rows (c .args .session) _ h;
-      rows = ap length (c .put-row .ensures) ∙ length-set rows (c .args .session) _;
-    }
+    let h : c .args .session < c .args .self .now .enrolled = omega (arith, c .pre, length-take (c .args .self .now .enrolled) (c .args .self .now .rows .now)) in
+    let p = put-rows (c .args .self .now .rows .now) (c .put-row .last .rows) (c .args .self .now .enrolled) (c .args .session) (row (c .args .marks) (c .args .state)) h (c .put-row .ensures) in
+    record { sessions = p .0; spare = p .1; rows = p .2 }
