@@ -52,6 +52,17 @@ fn records_are_read() -> Result<(), Fail> {
 }
 
 #[test]
+fn octets_after_a_tag_are_its_fault() -> Result<(), Fail> {
+    let after_tag = FieldFault {
+        field: 1,
+        cause: FieldCause::Tag(TagFault { octet: 4 }),
+    };
+    let forty =
+        b"object,01040001000000000000000000000000000000000000000000000000000000000000000000000000";
+    check_eq(read_record(forty), Ok(Record::Object(Err(after_tag))))
+}
+
+#[test]
 fn fields_are_refused() -> Result<(), Fail> {
     let zero = FieldCause::Number(NumberFault { octet: 0 });
     check_eq(read_record(b"read,00,0"), at_field(1, zero)).note("a needless zero")?;
