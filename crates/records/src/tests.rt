@@ -44,22 +44,14 @@ fn records_are_read() -> Result<(), Fail> {
         read_record(b"object,0104000101"),
         Ok(Record::Object(Err(after_tag))),
     )?;
+    let forty =
+        b"object,01040001000000000000000000000000000000000000000000000000000000000000000000000000";
+    check_eq(read_record(forty), Ok(Record::Object(Err(after_tag)))).note("40 octets")?;
     let whole = RecordFault {
         record: 7,
         cause: RecordCause::Field(after_tag),
     };
     check_eq(read_record_at(b"object,0104000101", 7), Err(whole)).note("tag, field and record")
-}
-
-#[test]
-fn octets_after_a_tag_are_its_fault() -> Result<(), Fail> {
-    let after_tag = FieldFault {
-        field: 1,
-        cause: FieldCause::Tag(TagFault { octet: 4 }),
-    };
-    let forty =
-        b"object,01040001000000000000000000000000000000000000000000000000000000000000000000000000";
-    check_eq(read_record(forty), Ok(Record::Object(Err(after_tag))))
 }
 
 #[test]
