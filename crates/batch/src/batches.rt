@@ -9,11 +9,13 @@ ghost use Rattle.records.specs.Lines.{record-of};
 ghost use Rattle.batch.specs.Lines.{lines-left, Within};
 ghost use Rattle.batch.specs.Serving.{serving};
 ghost use Rattle.batch.specs.Loading.{loading};
-ghost use Rattle.batch.specs.Batch.{blank-row, blank-rows, blank-places, choice, under, waiting, batch-of};
+ghost use Rattle.batch.specs.Batch.{blank-rows, blank-places, choice, under, waiting, batch-of};
 use crate::answers::Answer;
 use crate::answers::BatchRefusal;
 use crate::answers::RefusalFromRecord;
 use crate::answers::put;
+use crate::blanks::blank_places;
+use crate::blanks::blank_rows;
 use crate::lines::Lines;
 use crate::loading::Loaded;
 use crate::loading::load_line;
@@ -21,64 +23,20 @@ use crate::serving::serve_line;
 use crate::serving::serve_lines;
 use labels::GradeLabel;
 use labels::GradeOrder;
-use labels::LabelOrder;
 use monitor::Monitor;
 use monitor::SessionRow;
 use policies::Integrity;
 use policies::IntegrityPolicy;
-use policies::Kind;
 use policies::Policy;
 use policies::Secrecy;
 use policies::SecrecyPolicy;
 use policies::SixLabels;
-use policies::Verdict;
 use records::PolicyName;
 use records::Record;
 use records::read_record;
 use reference::Entry;
-use reference::SessionState;
 use std::alloc::AllocError;
 use std::alloc::Global;
-
-const SESSION_PLACES: usize = 64;
-
-const LOG_PLACES: usize = 1024;
-
-const BLANK_ENTRY: Entry = Entry {
-    session: 0,
-    object: 0,
-    kind: Kind::Read,
-    verdict: Verdict::History,
-};
-
-fn blank_row() -> SessionRow<SixLabels<GradeLabel>>
-    ensures { λ r. ⌜ r ≡ blank-row ⌝ }
-{
-    let low = GradeLabel::low();
-    SessionRow {
-        marks: SixLabels {
-            clearance: low,
-            current: low,
-            in_low: low,
-            in_high: low,
-            out_low: low,
-            out_high: low,
-        },
-        state: SessionState::Closed,
-    }
-}
-
-fn blank_rows() -> [SessionRow<SixLabels<GradeLabel>>; SESSION_PLACES]
-    ensures { λ r. ⌜ r ≡ blank-rows ⌝ }
-{
-    [blank_row(); SESSION_PLACES]
-}
-
-fn blank_places() -> [Entry; LOG_PLACES]
-    ensures { λ r. ⌜ r ≡ blank-places ⌝ }
-{
-    [BLANK_ENTRY; LOG_PLACES]
-}
 
 // Makes the monitor for the line that starts the first session, and carries out that line and all after it.
 fn serve_from<'a, P: Policy<Label = GradeLabel>>(

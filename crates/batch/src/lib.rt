@@ -1,6 +1,7 @@
 //! Batches: records in, calls of a monitor, records out.
 mod answers;
 mod batches;
+mod blanks;
 mod lines;
 mod loading;
 mod serving;

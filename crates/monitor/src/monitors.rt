@@ -1,7 +1,6 @@
 //! The monitor: decides each request by the session's marks, and logs the verdict.
 ghost use mathlib.Core.Path.{_≡_};
 ghost use mathlib.Core.List.{reverse};
-ghost use Prim.Native.Nat.{min};
 ghost use Rattle.std.specs.Finite.{nth};
 ghost use Rattle.std.specs.Options.{okOr};
 ghost use Rattle.reference.specs.declared.refusals.Refusal.the-variants as refusal;
@@ -43,12 +42,6 @@ fn label_at<L: Copy>(labels: &[L], object: usize) -> Result<L, Refusal>
     Err(Refusal::UnknownObject)
 }
 
-fn at_most(n: usize, limit: usize) -> usize
-    ensures { λ r. ⌜ r ≡ min n limit ⌝ }
-{
-    if n < limit { n } else { limit }
-}
-
 impl<'a, P: Policy> Monitor<'a, P> {
     /// A monitor with no session and no entry, whatever the slices hold. It uses the first 4,096 objects, 1,024 rows
     /// and 65,536 places where there are more.
@@ -59,9 +52,9 @@ impl<'a, P: Policy> Monitor<'a, P> {
     ) -> Monitor<'a, P>
         ensures { λ r. ⌜ view r ≡ made-over (now (objects .entry)) (now (rows .entry)) (now (places .entry)) ⌝ }
     {
-        let object_count = at_most(objects.len(), OBJECT_LIMIT);
-        let row_count = at_most(rows.len(), ROW_LIMIT);
-        let place_count = at_most(places.len(), PLACE_LIMIT);
+        let object_count = objects.len().min(OBJECT_LIMIT);
+        let row_count = rows.len().min(ROW_LIMIT);
+        let place_count = places.len().min(PLACE_LIMIT);
         let sessions = SessionTable::new(&mut rows[0..row_count]);
         let log = Log::new(&mut places[0..place_count]);
         Monitor {

@@ -7,8 +7,8 @@ use Rattle.monitor.proofs.monitors.Monitor.new.Needs as need
 pub returns : need.returns
 returns g c =
     fresh-from
-    (take-at-most (c .at-most-object-count .result - 0) 4096 (c .args .objects .now) (omega (arith, c .at-most-object-count .ensures)))
-    (take-at-most (c .at-most-row-count .result - 0) 1024 (c .args .rows .now) (omega (arith, c .at-most-row-count .ensures)))
-    (take-at-most (c .at-most-place-count .result - 0) 65536 (c .args .places .now) (omega (arith, c .at-most-place-count .ensures)))
+    (take-at-most (c .min-object-count .result - 0) 4096 (c .args .objects .now) (omega (arith, c .min-object-count .ensures)))
+    (take-at-most (c .min-row-count .result - 0) 1024 (c .args .rows .now) (omega (arith, c .min-row-count .ensures)))
+    (take-at-most (c .min-place-count .result - 0) 65536 (c .args .places .now) (omega (arith, c .min-place-count .ensures)))
     (c .new-sessions .ensures .rows) (c .new-log .ensures .places) (c .new-sessions .ensures .sessions) (c .new-log .ensures .history)
     (c .new-sessions .ensures .spare) (c .new-log .ensures .blank)

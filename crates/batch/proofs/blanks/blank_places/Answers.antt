@@ -1,6 +1,6 @@
 use mathlib.Core.Path.{refl}
 use Rattle.batch.specs.Batch.{blank-places}
-use Rattle.batch.proofs.batches.blank_places.Needs as need
+use Rattle.batch.proofs.blanks.blank_places.Needs as need
 
 pub returns : need.returns
 unfolding blank-places
