@@ -10,15 +10,15 @@ use Rattle.policies.specs.Model.{Model}
 use Rattle.reference.specs.declared.entries.Entry.{Entry}
 use Rattle.monitor.specs.View.{View, made-over}
 use Rattle.monitor.specs.declared.tables.SessionRow.{SessionRow}
-use Rattle.records.specs.declared.faults.RecordCause.{RecordCause}
+use Rattle.faults.specs.declared.layers.RecordCause.{RecordCause}
 use Rattle.records.specs.declared.values.Record.{Record}
 use Rattle.records.specs.declared.values.Record.the-variants.{Policy, Object, Session, Request, Close}
 use Rattle.records.specs.Lines.{record-of}
-use Rattle.batch.specs.Answers.{Outcome, output-of}
+use Rattle.answers.specs.Answers.{Outcome, output-of}
 use Rattle.batch.specs.Batch.{choice, under, from-choice, waiting}
 use Rattle.batch.specs.Loading.{loaded-of, load-after, from-loaded, loading}
-use Rattle.batch.specs.declared.answers.Answer.the-variants as answered
-use Rattle.batch.specs.declared.answers.BatchRefusal.{BatchRefusal}
+use Rattle.answers.specs.declared.outcomes.Answer.the-variants as answered
+use Rattle.answers.specs.declared.outcomes.BatchRefusal.{BatchRefusal}
 use Rattle.records.specs.declared.values.PolicyName.{PolicyName}
 use Rattle.batch.specs.declared.loading.Loaded.{Loaded}
 use Rattle.batch.specs.declared.loading.Loaded.the-variants.{Starts, Came}

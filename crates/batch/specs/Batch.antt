@@ -13,18 +13,18 @@ use Rattle.policies.specs.declared.verdicts.Verdict.the-variants as verdict
 use Rattle.reference.specs.declared.entries.Entry.{Entry}
 use Rattle.reference.specs.declared.sessions.SessionState.the-variants as state
 use Rattle.monitor.specs.declared.tables.SessionRow.{SessionRow}
-use Rattle.records.specs.declared.faults.RecordCause.{RecordCause}
+use Rattle.faults.specs.declared.layers.RecordCause.{RecordCause}
 use Rattle.records.specs.declared.values.PolicyName.{PolicyName}
 use Rattle.records.specs.declared.values.PolicyName.the-variants.{Confidentiality, Integrity}
 use Rattle.records.specs.declared.values.Record.{Record}
 use Rattle.records.specs.declared.values.Record.the-variants.{Policy, Object, Session, Request, Close}
 use Rattle.records.specs.Lines.{record-of}
-use Rattle.batch.specs.Answers.{output-of}
+use Rattle.answers.specs.Answers.{output-of}
 use Rattle.batch.specs.Lines.{lines-of}
 use Rattle.batch.specs.Loading.{loading}
-use Rattle.batch.specs.declared.answers.Answer.the-variants as answered
-use Rattle.batch.specs.declared.answers.BatchRefusal.{BatchRefusal}
-use Rattle.batch.specs.declared.answers.BatchRefusal.the-variants as refused
+use Rattle.answers.specs.declared.outcomes.Answer.the-variants as answered
+use Rattle.answers.specs.declared.outcomes.BatchRefusal.{BatchRefusal}
+use Rattle.answers.specs.declared.outcomes.BatchRefusal.the-variants as refused
 
 -- what the rows and places hold before anything is put there
 abbrev pub blank-row : SessionRow (SixLabels GradeLabel)

@@ -12,18 +12,18 @@ use Rattle.reference.specs.declared.refusals.Refusal.the-variants.{NotEnrolled}
 use Rattle.reference.specs.declared.entries.Entry.{Entry}
 use Rattle.monitor.specs.View.{made-over}
 use Rattle.monitor.specs.declared.tables.SessionRow.{SessionRow}
-use Rattle.records.specs.declared.faults.FieldFault.{FieldFault}
-use Rattle.records.specs.declared.faults.RecordCause.{RecordCause}
+use Rattle.faults.specs.declared.layers.FieldFault.{FieldFault}
+use Rattle.faults.specs.declared.layers.RecordCause.{RecordCause}
 use Rattle.records.specs.declared.values.Record.{Record}
 use Rattle.records.specs.declared.values.Record.the-variants.{Policy, Object, Session, Request, Close}
 use Rattle.records.specs.Lines.{record-of}
-use Rattle.batch.specs.Answers.{Outcome, output-of}
+use Rattle.answers.specs.Answers.{Outcome, output-of}
 use Rattle.batch.specs.Serving.{label-in, serving}
 use Rattle.batch.specs.declared.loading.Loaded.{Loaded}
 use Rattle.batch.specs.declared.loading.Loaded.the-variants.{Starts, Came}
-use Rattle.batch.specs.declared.answers.Answer.the-variants as answered
-use Rattle.batch.specs.declared.answers.BatchRefusal.{BatchRefusal}
-use Rattle.batch.specs.declared.answers.BatchRefusal.the-variants as refused
+use Rattle.answers.specs.declared.outcomes.Answer.the-variants as answered
+use Rattle.answers.specs.declared.outcomes.BatchRefusal.{BatchRefusal}
+use Rattle.answers.specs.declared.outcomes.BatchRefusal.the-variants as refused
 
 -- how many objects there may be
 abbrev pub object-places : ℕ

@@ -7,17 +7,17 @@ use Rattle.labels.specs.declared.grades.GradeLabel.{GradeLabel}
 use Rattle.policies.specs.Model.{Model}
 use Rattle.reference.specs.Results.{and-then, refused-as, answer}
 use Rattle.monitor.specs.View.{View, enrol-answer, enrol-after, request-answer, request-after, close-answer, close-after}
-use Rattle.records.specs.declared.faults.FieldFault.{FieldFault}
-use Rattle.records.specs.declared.faults.RecordCause.{RecordCause}
-use Rattle.records.specs.declared.faults.RecordCause.the-variants.{Field}
+use Rattle.faults.specs.declared.layers.FieldFault.{FieldFault}
+use Rattle.faults.specs.declared.layers.RecordCause.{RecordCause}
+use Rattle.faults.specs.declared.layers.RecordCause.the-variants.{Field}
 use Rattle.records.specs.declared.values.Record.{Record}
 use Rattle.records.specs.declared.values.Record.the-variants.{Policy, Object, Session, Request, Close}
 use Rattle.records.specs.Lines.{record-of}
-use Rattle.batch.specs.Answers.{Outcome, output-of}
-use Rattle.batch.specs.declared.answers.Answer.{Answer}
-use Rattle.batch.specs.declared.answers.Answer.the-variants as answered
-use Rattle.batch.specs.declared.answers.BatchRefusal.{BatchRefusal}
-use Rattle.batch.specs.declared.answers.BatchRefusal.the-variants as refused
+use Rattle.answers.specs.Answers.{Outcome, output-of}
+use Rattle.answers.specs.declared.outcomes.Answer.{Answer}
+use Rattle.answers.specs.declared.outcomes.Answer.the-variants as answered
+use Rattle.answers.specs.declared.outcomes.BatchRefusal.{BatchRefusal}
+use Rattle.answers.specs.declared.outcomes.BatchRefusal.the-variants as refused
 
 -- a label, unless its tag is wrong
 abbrev pub label-in : Result GradeLabel FieldFault → Result GradeLabel BatchRefusal

@@ -1,5 +1,4 @@
 //! Batches: records in, calls of a monitor, records out.
-mod answers;
 mod batches;
 mod blanks;
 mod lines;

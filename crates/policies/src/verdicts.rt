@@ -34,7 +34,7 @@ pub enum Verdict {
 }
 
 /// A verdict, and the marks that stand after it.
-#[derive(Clone, Copy, PartialEq, Eq, Debug)]
+#[derive(Clone, Copy)]
 pub struct Decision<M> {
     pub verdict: Verdict,
     pub marks: M,

@@ -5,13 +5,13 @@ use Prim.Native.Nat.{ℕ}
 use native.Mathlib.Omega.{arith}
 use Rattle.std.specs.declared.result.Result.{Result}
 use Rattle.std.specs.declared.result.Result.the-variants.{Ok, Err}
-use Rattle.records.specs.declared.faults.FieldCause.{FieldCause}
-use Rattle.records.specs.declared.faults.FieldFault.{FieldFault}
-use Rattle.records.specs.declared.faults.RecordCause.{RecordCause}
-use Rattle.records.specs.declared.faults.RecordCause.the-variants.{Field}
+use Rattle.faults.specs.declared.layers.FieldCause.{FieldCause}
+use Rattle.faults.specs.declared.layers.FieldFault.{FieldFault}
+use Rattle.faults.specs.declared.layers.RecordCause.{RecordCause}
+use Rattle.faults.specs.declared.layers.RecordCause.the-variants.{Field}
 use Rattle.records.specs.declared.values.Record.{Record}
 use Rattle.records.specs.declared.words.Word.{Word}
-use Rattle.records.specs.Faults.{passed, at-field}
+use Rattle.faults.specs.Faults.{passed, at-field}
 use Rattle.records.specs.Words.{word-of}
 use Rattle.records.specs.Lines.{by-word, by-fields}
 

@@ -16,12 +16,12 @@ use Rattle.std.specs.declared.option.Option.the-variants.{Some, None}
 use Rattle.labels.specs.declared.grades.GradeLabel.{GradeLabel}
 use Rattle.tags.specs.declared.faults.TagFault.{TagFault}
 use Rattle.tags.specs.Tag.{tag-of}
-use Rattle.records.specs.declared.faults.FieldCause.the-variants.{Tag}
+use Rattle.faults.specs.declared.layers.FieldCause.the-variants.{Tag}
 use Rattle.records.specs.Fields.{stray, stray-from}
 use Rattle.records.specs.Texts.{digits-from, number-of, base16, is-hex, hex-value, hex-digit, written-label}
-use Rattle.records.specs.Faults.{at-field, placed-of, passed}
-use Rattle.records.specs.declared.faults.Placed.{Placed}
-use Rattle.records.specs.declared.faults.FieldCause.{FieldCause}
+use Rattle.faults.specs.Faults.{at-field, placed-of, passed}
+use Rattle.faults.specs.declared.layers.Placed.{Placed}
+use Rattle.faults.specs.declared.layers.FieldCause.{FieldCause}
 use native.Mathlib.Nat.{sub-zero}
 
 pub digits-more : (v i : ℕ) (xs : List ℕ) → i < length xs → i < 5 → 48 ≤ getD xs i 0 → getD xs i 0 ≤ 57

@@ -1,4 +1,3 @@
-pub mod Faults
 pub mod Fields
 pub mod Texts
 pub mod Words

@@ -9,16 +9,16 @@ use Rattle.std.specs.declared.option.Option.the-variants.{Some, None}
 use Rattle.std.specs.declared.result.Result.{Result}
 use Rattle.std.specs.declared.result.Result.the-variants.{Ok, Err}
 use Rattle.policies.specs.declared.verdicts.Kind.{Kind}
-use Rattle.records.specs.declared.faults.FieldCause.the-variants.{Word as no-word}
-use Rattle.records.specs.declared.faults.FieldFault.{FieldFault}
-use Rattle.records.specs.declared.faults.RecordCause.{RecordCause}
-use Rattle.records.specs.declared.faults.RecordCause.the-variants.{TooLong, Stray, FieldCount, Field}
-use Rattle.records.specs.declared.faults.RecordFault.{RecordFault}
+use Rattle.faults.specs.declared.layers.FieldCause.the-variants.{Word as no-word}
+use Rattle.faults.specs.declared.layers.FieldFault.{FieldFault}
+use Rattle.faults.specs.declared.layers.RecordCause.{RecordCause}
+use Rattle.faults.specs.declared.layers.RecordCause.the-variants.{TooLong, Stray, FieldCount, Field}
+use Rattle.faults.specs.declared.layers.RecordFault.{RecordFault}
 use Rattle.records.specs.declared.values.Record.{Record}
 use Rattle.records.specs.declared.values.Record.the-variants.{Policy, Object, Session, Request, Close}
 use Rattle.records.specs.declared.words.Word.{Word}
 use Rattle.records.specs.declared.words.Word.the-variants.{Policy as policy-word, Object as object-word, Session as session-word, Request as request-word, Close as close-word}
-use Rattle.records.specs.Faults.{passed, at-field, at-record}
+use Rattle.faults.specs.Faults.{passed, at-field, at-record}
 use Rattle.records.specs.Fields.{fields-of, stray-from}
 use Rattle.records.specs.Texts.{number-field, label-field}
 use Rattle.records.specs.Words.{word-of, policy-of}

@@ -12,12 +12,12 @@ use Rattle.std.specs.declared.option.Option.the-variants.{Some, None}
 use Rattle.labels.specs.declared.grades.GradeLabel.{GradeLabel}
 use Rattle.tags.specs.declared.faults.TagFault.{TagFault}
 use Rattle.tags.specs.Tag.{tag-of}
-use Rattle.records.specs.declared.faults.NumberFault.{NumberFault}
-use Rattle.records.specs.declared.faults.Base16Fault.{Base16Fault}
-use Rattle.records.specs.declared.faults.FieldCause.{FieldCause}
-use Rattle.records.specs.declared.faults.FieldCause.the-variants.{Word, Number, Base16, Tag}
-use Rattle.records.specs.declared.faults.FieldFault.{FieldFault}
-use Rattle.records.specs.Faults.{passed, at-field}
+use Rattle.faults.specs.declared.layers.NumberFault.{NumberFault}
+use Rattle.faults.specs.declared.layers.Base16Fault.{Base16Fault}
+use Rattle.faults.specs.declared.layers.FieldCause.{FieldCause}
+use Rattle.faults.specs.declared.layers.FieldCause.the-variants.{Word, Number, Base16, Tag}
+use Rattle.faults.specs.declared.layers.FieldFault.{FieldFault}
+use Rattle.faults.specs.Faults.{passed, at-field}
 
 abbrev pub digit : ℕ → Bool
 digit c = leb 48 c && leb c 57

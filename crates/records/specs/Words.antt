@@ -7,8 +7,8 @@ use Rattle.std.specs.shelf.Text.{sameBytes}
 use Rattle.std.specs.declared.result.Result.{Result}
 use Rattle.std.specs.declared.result.Result.the-variants.{Ok, Err}
 use Rattle.policies.specs.declared.verdicts.Kind.the-variants.{Read, Write, Both}
-use Rattle.records.specs.declared.faults.FieldCause.{FieldCause}
-use Rattle.records.specs.declared.faults.FieldCause.the-variants.{Word as no-word}
+use Rattle.faults.specs.declared.layers.FieldCause.{FieldCause}
+use Rattle.faults.specs.declared.layers.FieldCause.the-variants.{Word as no-word}
 use Rattle.records.specs.declared.values.PolicyName.{PolicyName}
 use Rattle.records.specs.declared.values.PolicyName.the-variants.{Confidentiality, Integrity}
 use Rattle.records.specs.declared.words.Word.{Word}

@@ -6,7 +6,7 @@ ghost use lib.ListN.{length};
 ghost use Rattle.std.specs.Results.{Cases};
 ghost use Rattle.std.specs.declared.result.Result.the-variants.{Err};
 ghost use Rattle.records.specs.Texts.{hex-digit, base16, Decoded};
-use crate::faults::Base16Fault;
+use faults::Base16Fault;
 
 // The value of a digit.
 fn hex_digit(octet: u8) -> Option<u8>

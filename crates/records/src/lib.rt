@@ -1,6 +1,5 @@
 //! Records: the lines of a batch file, and what is wrong with one.
 mod base16;
-mod faults;
 mod fields;
 mod labels_in_text;
 mod numbers;
@@ -8,38 +7,6 @@ mod reader;
 mod values;
 mod words;
 
-pub use faults::Base16Fault;
-pub use faults::Base16FaultDebug;
-pub use faults::Base16FaultEq;
-pub use faults::Base16FaultPartialEq;
-pub use faults::CauseFromBase16;
-pub use faults::CauseFromField;
-pub use faults::CauseFromNumber;
-pub use faults::CauseFromTag;
-pub use faults::FieldCause;
-pub use faults::FieldCauseDebug;
-pub use faults::FieldCauseEq;
-pub use faults::FieldCausePartialEq;
-pub use faults::FieldFault;
-pub use faults::FieldFaultDebug;
-pub use faults::FieldFaultEq;
-pub use faults::FieldFaultFromPlaced;
-pub use faults::FieldFaultPartialEq;
-pub use faults::NumberFault;
-pub use faults::NumberFaultDebug;
-pub use faults::NumberFaultEq;
-pub use faults::NumberFaultPartialEq;
-pub use faults::Placed;
-pub use faults::RecordCause;
-pub use faults::RecordCauseDebug;
-pub use faults::RecordCauseEq;
-pub use faults::RecordCausePartialEq;
-pub use faults::RecordFault;
-pub use faults::RecordFaultDebug;
-pub use faults::RecordFaultEq;
-pub use faults::RecordFaultFromPlaced;
-pub use faults::RecordFaultPartialEq;
-pub use faults::at_place;
 pub use fields::field_at;
 pub use labels_in_text::read_label;
 pub use numbers::read_number;
@@ -54,6 +21,3 @@ pub use values::Record;
 pub use values::RecordDebug;
 pub use values::RecordEq;
 pub use values::RecordPartialEq;
-
-#[cfg(test)]
-mod tests;

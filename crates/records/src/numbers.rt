@@ -1,15 +1,15 @@
 //! Numbers.
 ghost use mathlib.Core.Path.{_≡_};
 ghost use Rattle.records.specs.Texts.{number-of, number-field};
-ghost use Rattle.records.specs.Faults.{passed};
+ghost use Rattle.faults.specs.Faults.{passed};
 ghost use Rattle.std.specs.declared.result.Result.the-variants.{Ok};
-ghost use Rattle.records.specs.declared.faults.FieldCause.the-variants.{Number};
-use crate::faults::CauseFromNumber;
-use crate::faults::FieldCause;
-use crate::faults::FieldFault;
-use crate::faults::FieldFaultFromPlaced;
-use crate::faults::NumberFault;
-use crate::faults::at_place;
+ghost use Rattle.faults.specs.declared.layers.FieldCause.the-variants.{Number};
+use faults::CauseFromNumber;
+use faults::FieldCause;
+use faults::FieldFault;
+use faults::FieldFaultFromPlaced;
+use faults::NumberFault;
+use faults::at_place;
 
 const MOST_DIGITS: usize = 5;
 

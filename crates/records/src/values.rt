@@ -1,7 +1,7 @@
 //! What a record says.
-use crate::faults::FieldFault;
-use crate::faults::FieldFaultDebug;
-use crate::faults::FieldFaultPartialEq;
+use faults::FieldFault;
+use faults::FieldFaultDebug;
+use faults::FieldFaultPartialEq;
 use labels::GradeLabel;
 use labels::GradeLabelDebug;
 use labels::GradeLabelPartialEq;

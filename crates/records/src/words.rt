@@ -1,8 +1,8 @@
 //! The words of a record.
 ghost use mathlib.Core.Path.{_≡_};
 ghost use Rattle.records.specs.Words.{says, word-of, policy-of};
-use crate::faults::FieldCause;
 use crate::values::PolicyName;
+use faults::FieldCause;
 use policies::Kind;
 
 // What a record is, by its first field.

@@ -1,4 +1,9 @@
-//! Worked examples over the real monitor: each is a short day of one session.
+//! Worked examples: tags, records, and short days of one session over the real monitor.
+#[cfg(test)]
+mod record_examples;
+#[cfg(test)]
+mod tag_examples;
+
 #[cfg(test)]
 mod tests {
     use labels::GradeLabel;
@@ -57,6 +62,14 @@ mod tests {
         verdict: Verdict::Granted,
     };
 
+    fn ask(object: usize, kind: Kind) -> Request {
+        Request {
+            session: 0,
+            object,
+            kind,
+        }
+    }
+
     // Session 0 puts a request, and the verdict is the one that is wanted.
     fn gives<P: Policy<Label = GradeLabel>>(
         monitor: &mut Monitor<'_, P>,
@@ -64,11 +77,7 @@ mod tests {
         object: usize,
         wanted: Verdict,
     ) -> Result<(), Fail> {
-        let (verdict, _) = monitor.request(Request {
-            session: 0,
-            object,
-            kind,
-        })?;
+        let (verdict, _) = monitor.request(ask(object, kind))?;
         check_eq(verdict, wanted)
     }
 
@@ -149,40 +158,44 @@ mod tests {
     }
 
     #[test]
-    fn refusals_leave_everything() -> Result<(), Fail> {
+    fn enrolments_are_refused() -> Result<(), Fail> {
         let objects = grades();
         let mut rows = [blank_row(); 1];
         let mut places = [BLANK; 1];
         let mut day = Monitor::<Secrecy<GradeLabel>>::new(&objects, &mut rows, &mut places);
-        let read = Request {
-            session: 0,
-            object: 2,
-            kind: Kind::Read,
-        };
-        check_eq(day.request(read), Err(Refusal::NotEnrolled))?;
+        check_eq(day.request(ask(2, Kind::Read)), Err(Refusal::NotEnrolled))?;
         check_eq(day.enrol(plain(2), plain(3)), Err(Refusal::NotDominated))?;
+        check_eq(Refusal::NotDominated.number(), 4)?;
         check_eq(day.enrol(plain(2), plain(2)), Ok(0))?;
         // No row is free, and that comes before the start label.
         check_eq(day.enrol(plain(2), plain(3)), Err(Refusal::NoFreeRow))?;
-        let far = Request {
-            session: 0,
-            object: 7,
-            kind: Kind::Read,
-        };
-        check_eq(day.request(far), Err(Refusal::UnknownObject))?;
-        check_eq(day.request(read), Ok((Verdict::Granted, 0)))?;
-        let up = Request {
-            session: 0,
-            object: 3,
-            kind: Kind::Write,
-        };
-        check_eq(day.request(up), Err(Refusal::NoFreePlace))?;
+        check_eq(day.request(ask(7, Kind::Read)), Err(Refusal::UnknownObject))
+    }
+
+    #[test]
+    fn a_full_log_leaves_the_marks() -> Result<(), Fail> {
+        let objects = grades();
+        let mut rows = [blank_row(); 1];
+        let mut places = [BLANK; 1];
+        let mut day = Monitor::<Secrecy<GradeLabel>>::new(&objects, &mut rows, &mut places);
+        check_eq(day.enrol(plain(2), plain(2)), Ok(0))?;
+        check_eq(day.request(ask(2, Kind::Read)), Ok((Verdict::Granted, 0)))?;
+        check_eq(day.request(ask(3, Kind::Write)), Err(Refusal::NoFreePlace))?;
         check_eq(day.row(0)?.out_low, GradeOrder::high())?;
-        check_eq(day.entries().len(), 1)?;
+        check_eq(day.entries().len(), 1)
+    }
+
+    #[test]
+    fn a_closed_session_stays_closed() -> Result<(), Fail> {
+        let objects = grades();
+        let mut rows = [blank_row(); 1];
+        let mut places = [BLANK; 1];
+        let mut day = Monitor::<Secrecy<GradeLabel>>::new(&objects, &mut rows, &mut places);
+        check_eq(day.enrol(plain(2), plain(2)), Ok(0))?;
+        check_eq(day.close(1), Err(Refusal::NotEnrolled))?;
         check_eq(day.close(0), Ok(()))?;
         check_eq(day.close(0), Err(Refusal::Closed))?;
-        check_eq(day.close(1), Err(Refusal::NotEnrolled))?;
-        check_eq(day.request(read), Err(Refusal::Closed))?;
-        check_eq(day.row(0)?.in_high, plain(2))
+        check_eq(day.request(ask(2, Kind::Read)), Err(Refusal::Closed))?;
+        check_eq(day.row(0)?.clearance, plain(2))
     }
 }

@@ -8,6 +8,3 @@ pub use faults::TagFaultEq;
 pub use faults::TagFaultPartialEq;
 pub use reader::read_tag;
 pub use reader::tags_are_their_categories;
-
-#[cfg(test)]
-mod tests;
