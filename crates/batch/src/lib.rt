@@ -1,4 +1,6 @@
 //! Batches: records in, calls of a monitor, records out.
+#![tactic(auto)]
+
 mod batches;
 mod blanks;
 mod lines;

@@ -1,4 +1,6 @@
 //! What is wrong with a record, in layers: the tag, the field, the record.
+#![tactic(auto)]
+
 mod layers;
 
 pub use layers::{

@@ -1,4 +1,6 @@
 //! labelrun: carries out the records of standard input, and writes what each came to on standard output.
+#![tactic(auto)]
+
 use batch::run_batch;
 use std::io;
 use std::io::{Read, Write};

@@ -1,4 +1,6 @@
 //! The label orders that are shipped: grades with categories, and rival brokers.
+#![tactic(auto)]
+
 mod grades;
 mod rivals;
 

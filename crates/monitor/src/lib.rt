@@ -1,4 +1,6 @@
 //! The reference monitor that keeps marks for each session.
+#![tactic(auto)]
+
 mod monitors;
 mod tables;
 

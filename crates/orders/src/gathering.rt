@@ -6,8 +6,8 @@ use crate::orders::LabelOrder;
 
 /// The lowest label that dominates each of the list: LOW where the list is empty.
 pub fn gather<L: LabelOrder>(labels: &[L]) -> L
-    ensures joins { result ≡ gathered order labels.now }
-    ensures lowest { LowestBound order labels.now result }
+    ensures joins { result ≡ gathered L.order labels.now }
+    ensures lowest { LowestBound L.order labels.now result }
 {
     let mut bound = L::low();
     for label in labels {

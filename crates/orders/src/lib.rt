@@ -1,4 +1,6 @@
 //! What a label order is: a lattice of labels under dominance; and what is made of any order.
+#![tactic(auto)]
+
 mod gathering;
 mod orders;
 mod pairs;

@@ -1,4 +1,6 @@
 //! What a mandatory access policy is: it says what a session may read and write, by labels.
+#![tactic(auto)]
+
 mod policies;
 mod products;
 mod verdicts;

@@ -1,4 +1,6 @@
 //! Records: the lines of a batch file, and what is wrong with one.
+#![tactic(auto)]
+
 mod base16;
 mod fields;
 mod labels_in_text;

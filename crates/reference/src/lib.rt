@@ -1,4 +1,6 @@
 //! What every reference monitor speaks of: requests, the entries of a log, the states of sessions, refusals.
+#![tactic(auto)]
+
 mod entries;
 mod refusals;
 mod sessions;

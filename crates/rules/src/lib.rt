@@ -1,4 +1,6 @@
 //! The policies that are shipped, over any label order: secrecy and integrity, by one core of rules, and both at once.
+#![tactic(auto)]
+
 mod integrity_policy;
 mod joint_policy;
 mod marks;

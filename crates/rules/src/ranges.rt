@@ -17,7 +17,7 @@ pub struct LabelRange<L> {
 
 impl<L: LabelOrder> LabelRange<L> {
     pub fn start(clearance: L, label: L) -> Result<LabelRange<L>, StartRefusal>
-        ensures { result ≡ range_start order clearance label }
+        ensures { result ≡ range_start L.order clearance label }
     {
         if !clearance.dominates(label) {
             return Err(StartRefusal::NotDominated);
@@ -31,7 +31,7 @@ impl<L: LabelOrder> LabelRange<L> {
     }
 
     fn in_order(self) -> bool
-        ensures { result ≡ ordered order self }
+        ensures { result ≡ ordered L.order self }
     {
         self.clearance.dominates(self.current)
             && self.ceiling.dominates(self.current)
@@ -39,7 +39,7 @@ impl<L: LabelOrder> LabelRange<L> {
     }
 
     fn permits(self, label: L, kind: Kind) -> bool
-        ensures { result ≡ permits order self label kind }
+        ensures { result ≡ permits L.order self label kind }
     {
         let within = self.clearance.dominates(label) && self.ceiling.dominates(label);
         match kind {
@@ -54,7 +54,7 @@ impl<L: LabelOrder> LabelRange<L> {
     }
 
     fn cleared(self, label: L, kind: Kind) -> bool
-        ensures { result ≡ cleared order self label kind }
+        ensures { result ≡ cleared L.order self label kind }
     {
         match kind {
             Kind::Read | Kind::Both => self.clearance.dominates(label),
@@ -64,20 +64,20 @@ impl<L: LabelOrder> LabelRange<L> {
 
     // The floor after a read: it rises also where the current label stays.
     fn raised(self, label: L) -> L
-        ensures { result ≡ order.join self.floor label }
+        ensures { result ≡ L.order.join self.floor label }
     {
         self.floor.join(label)
     }
 
     // The ceiling after a write.
     fn lowered(self, label: L) -> L
-        ensures { result ≡ order.meet self.ceiling label }
+        ensures { result ≡ L.order.meet self.ceiling label }
     {
         self.ceiling.meet(label)
     }
 
     fn moved(self, label: L, kind: Kind) -> LabelRange<L>
-        ensures { result ≡ moved order self label kind }
+        ensures { result ≡ moved L.order self label kind }
     {
         match kind {
             Kind::Read => LabelRange {
@@ -100,7 +100,7 @@ impl<L: LabelOrder> LabelRange<L> {
     }
 
     pub fn decide(self, label: L, kind: Kind) -> Result<Decision<LabelRange<L>>, DecideRefusal>
-        ensures { result ≡ range_decide order self label kind }
+        ensures { result ≡ range_decide L.order self label kind }
     {
         if !self.in_order() {
             return Err(DecideRefusal::OutOfOrder);

@@ -1,4 +1,6 @@
 //! Worked examples: tags, records, lists of labels, and short days over the real monitor.
+#![tactic(auto)]
+
 #[cfg(test)]
 mod days;
 #[cfg(test)]

@@ -1,4 +1,6 @@
 //! Tags: the octets that carry a label.
+#![tactic(auto)]
+
 mod faults;
 mod reader;
 
