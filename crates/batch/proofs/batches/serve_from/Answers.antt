@@ -10,15 +10,15 @@ pub returns : goal.returns
 returns g c =
     let model = g.P.Policy.model in
     let new = made_over c.args.objects.now c.args.rows.now c.args.places.now in
-    let after = view c.serve-line-outcome.new.monitor in
+    let after = view c.serve_line-outcome.new.monitor in
     let taken = c.args.lines.now.taken in
     let line = c.args.line.now in
     let left = lines_left c.args.lines.now in
-    IfOk-weaker c.serve-lines.result
-    (λ _. vec_items c.serve-lines.new.out ≡ vec_items c.put.new.out ++ serving model after (taken + 1) left)
-    (λ _. vec_items c.serve-lines.new.out ≡ vec_items c.args.out.now ++ serving model new taken (line ∷ left))
-    (λ _ e. e ∙ wrote (vec_items c.args.out.now) (vec_items c.put.new.out) _ _ _ _ c.in-ok-put.ensures
-    (serving_first model new (view c.new-monitor.result) after taken line left c.serve-line-outcome.result
-    c.new-monitor.ensures c.serve-line-outcome.ensures.answer c.serve-line-outcome.ensures.after)
+    IfOk-weaker c.serve_lines.result
+    (λ _. vec_items c.serve_lines.new.out ≡ vec_items c.put.new.out ++ serving model after (taken + 1) left)
+    (λ _. vec_items c.serve_lines.new.out ≡ vec_items c.args.out.now ++ serving model new taken (line ∷ left))
+    (λ _ e. e ∙ wrote (vec_items c.args.out.now) (vec_items c.put.new.out) _ _ _ _ c.in_ok-put.ensures
+    (serving_first model new (view c.new-monitor.result) after taken line left c.serve_line-outcome.result
+    c.new-monitor.ensures c.serve_line-outcome.ensures.answer c.serve_line-outcome.ensures.after)
     refl)
-    c.serve-lines.ensures
+    c.serve_lines.ensures

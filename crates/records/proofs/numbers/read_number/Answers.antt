@@ -6,8 +6,8 @@ use Rattle.records.proofs.numbers.read_number.Goals as goal
 pub loop-i-init : goal.loop-i-init
 loop-i-init c = (omega arith, omega arith, number_digits c.args.text.now (search rules) (grind (arith, nat_tests)))
 
-pub returns-then-i-eq-MOST-DIGITS : goal.returns-then-i-eq-MOST-DIGITS
-returns-then-i-eq-MOST-DIGITS c =
+pub returns-then-i-eq-MOST_DIGITS : goal.returns-then-i-eq-MOST_DIGITS
+returns-then-i-eq-MOST_DIGITS c =
     let w : (c.loop-i.i ≡ 5) ⊎ ((get_or c.args.text.now c.loop-i.i 0 < 48) ⊎ (57 < get_or c.args.text.now c.loop-i.i 0)) = grind (arith, nat_tests) in
     sym (c.loop-i.invariant.2 ∙ digits_stop c.loop-i.value c.loop-i.i c.args.text.now c.loop-i-test.true w)
 

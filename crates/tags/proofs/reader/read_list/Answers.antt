@@ -11,4 +11,4 @@ loop-left-preserved c =
     long (omega arith) (omega arith) (omega arith) in
     let rest = take_rest c.loop-left.left.now 2 in
     let before = c.loop-left.invariant.2 in
-    (c.type-inv.map, simp (take_rest, length-drop) (omega (arith, c.loop-left.invariant.1)), cc)
+    (c.type_inv.map, simp (take_rest, length-drop) (omega (arith, c.loop-left.invariant.1)), cc)

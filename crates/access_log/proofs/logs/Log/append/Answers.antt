@@ -18,7 +18,7 @@ returns c =
     let yes = free_yes places log.used (length (history_of log)) NoFreePlace (length-reverse _) c.if-at-self.false in
     record {
       answer = rw (yes, ← long_back places log.used c.if-at-self.false);
-      history = rw yes (back_written places _ log.used _ c.if-at-self.false c.write-first.ensures);
-      blank = rw yes (rest_written places _ log.used _ c.if-at-self.false c.write-first.ensures);
-      places = length_written places _ log.used _ c.if-at-self.false c.write-first.ensures;
+      history = rw yes (back_written places _ log.used _ c.if-at-self.false c.write_first.ensures);
+      blank = rw yes (rest_written places _ log.used _ c.if-at-self.false c.write_first.ensures);
+      places = length_written places _ log.used _ c.if-at-self.false c.write_first.ensures;
     }

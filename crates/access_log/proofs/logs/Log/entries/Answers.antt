@@ -4,8 +4,8 @@ use Rattle.reference.specs.declared.entries.Entry.{Entry}
 use Rattle.access_log.proofs.Prefixes.{take_at_most}
 use Rattle.access_log.proofs.logs.Log.entries.Goals as goal
 
-pub slice-bounds-result-end : goal.slice-bounds-result-end
-slice-bounds-result-end c =
+pub slice_bounds-result-end : goal.slice_bounds-result-end
+slice_bounds-result-end c =
     let places = c.args.self.now.places.now in
     let used = c.args.self.now.used in
     let h : c.count-count.result ≤ length places = omega (arith, c.count-count.ensures, length-take used places, length-reverse (take used places)) in

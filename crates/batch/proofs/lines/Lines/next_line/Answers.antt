@@ -17,11 +17,11 @@ returns c =
     let lines = c.args.self.now in
     let xs = lines.input.now in
     let short : length xs < 2 ^ 64 = search rules in
-    let next : (c.line-end-end.result + 2 ≤ length xs → c.min-self.result ≡ c.line-end-end.result + 2) × (length xs < c.line-end-end.result + 2 → c.min-self.result ≡ length xs) =
-    ((λ h. omega (arith, c.min-self.ensures, c.saturating-add.ensures)), (λ h. omega (arith, c.min-self.ensures, c.saturating-add.ensures))) in
-    let on = goes_on xs lines.from c.line-end-end.result c.min-self.result c.line-end-end.ensures.value c.if-from-input.false c.line-end-end.ensures.within next in
+    let next : (c.line_end-end.result + 2 ≤ length xs → c.min-self.result ≡ c.line_end-end.result + 2) × (length xs < c.line_end-end.result + 2 → c.min-self.result ≡ length xs) =
+    ((λ h. omega (arith, c.min-self.ensures, c.saturating_add.ensures)), (λ h. omega (arith, c.min-self.ensures, c.saturating_add.ensures))) in
+    let on = goes_on xs lines.from c.line_end-end.result c.min-self.result c.line_end-end.ensures.value c.if-from-input.false c.line_end-end.ensures.within next in
     record {
-      left = line_at xs lines.from c.line-end-end.result c.min-self.result c.line-end-end.ensures.value c.if-from-input.false c.line-end-end.ensures.within next;
+      left = line_at xs lines.from c.line_end-end.result c.min-self.result c.line_end-end.ensures.value c.if-from-input.false c.line_end-end.ensures.within next;
       taken = refl;
       within = record { counted = omega (arith, c.requires.counted, on.0); inside = on.1 };
       on = omega (arith, on.0, c.if-from-input.false);

@@ -5,4 +5,4 @@ use Rattle.monitor.proofs.monitors.Monitor.request.Goals as goal
 
 pub put-requires : goal.put-requires
 put-requires g c =
-    judged_within g.P.Policy.model (view c.args.self.now) c.args.request c.in-ok-decision.decision (sym c.judge.ensures ∙ c.in-ok-decision.was)
+    judged_within g.P.Policy.model (view c.args.self.now) c.args.request c.in_ok-decision.decision (sym c.judge.ensures ∙ c.in_ok-decision.was)
