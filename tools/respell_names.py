@@ -84,7 +84,8 @@ def rename_crate(root):
 
 def files(root):
     for folder, dirs, names in os.walk(root):
-        dirs[:] = sorted(d for d in dirs if d not in ("out", "target", ".git", "must-fail", "reference", "examples"))
+        skipped = ("out", "target", ".git", "must-fail") + (("reference", "examples") if folder == root else ())
+        dirs[:] = sorted(d for d in dirs if d not in skipped)
         yield from (os.path.join(folder, n) for n in sorted(names) if n.endswith((".rt", ".antt", ".md")))
 
 

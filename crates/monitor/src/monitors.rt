@@ -58,8 +58,8 @@ impl<'a, P: Policy> Monitor<'a, P> {
 
     /// Starts the next session, and says its number.
     pub fn enrol(&mut self, clearance: P::Label, start: P::Label) -> Result<usize, Refusal>
-        ensures answer { result ≡ enrol_answer model (view self.old) clearance start }
-        ensures after { view self.new ≡ enrol_after model (view self.old) clearance start }
+        ensures answer { result ≡ enrol_answer P.model (view self.old) clearance start }
+        ensures after { view self.new ≡ enrol_after P.model (view self.old) clearance start }
     {
         self.sessions.check_free()?;
         let marks = P::start(clearance, start)?;
@@ -68,7 +68,7 @@ impl<'a, P: Policy> Monitor<'a, P> {
 
     // What the policy decides on a request.
     fn judge(&self, request: Request) -> Result<Decision<P::Marks>, Refusal>
-        ensures { result ≡ judging model (view self.now) request }
+        ensures { result ≡ judging P.model (view self.now) request }
     {
         let marks = self.sessions.open_marks(request.session)?;
         let label = label_at(self.objects, request.object)?;
@@ -77,8 +77,8 @@ impl<'a, P: Policy> Monitor<'a, P> {
 
     /// Decides a request and logs the verdict; says the verdict and its place in the log.
     pub fn request(&mut self, request: Request) -> Result<(Verdict, usize), Refusal>
-        ensures answer { result ≡ request_answer model (view self.old) request }
-        ensures after { view self.new ≡ request_after model (view self.old) request }
+        ensures answer { result ≡ request_answer P.model (view self.old) request }
+        ensures after { view self.new ≡ request_after P.model (view self.old) request }
     {
         let decision = self.judge(request)?;
         let verdict = decision.verdict;
@@ -90,8 +90,8 @@ impl<'a, P: Policy> Monitor<'a, P> {
 
     /// Ends a session. Its marks stay readable.
     pub fn close(&mut self, session: usize) -> Result<(), Refusal>
-        ensures answer { result ≡ close_answer model (view self.old) session }
-        ensures after { view self.new ≡ close_after model (view self.old) session }
+        ensures answer { result ≡ close_answer P.model (view self.old) session }
+        ensures after { view self.new ≡ close_after P.model (view self.old) session }
     {
         let marks = self.sessions.open_marks(session)?;
         self.sessions.put(session, marks, SessionState::Closed);
@@ -100,7 +100,7 @@ impl<'a, P: Policy> Monitor<'a, P> {
 
     /// The marks of a session, open or closed.
     pub fn row(&self, session: usize) -> Result<P::Marks, Refusal>
-        ensures { result ≡ row_answer model (view self.now) session }
+        ensures { result ≡ row_answer P.model (view self.now) session }
     {
         let found = self.sessions.row(session)?;
         Ok(found.marks)

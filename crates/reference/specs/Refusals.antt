@@ -20,5 +20,5 @@ number OutOfOrder = 7
 abbrev pub from_start : StartRefusal → Refusal
 from_start start.NotDominated = NotDominated
 
-abbrev pub from-decide : DecideRefusal → Refusal
-from-decide decide.OutOfOrder = OutOfOrder
+abbrev pub from_decide : DecideRefusal → Refusal
+from_decide decide.OutOfOrder = OutOfOrder

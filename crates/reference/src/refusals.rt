@@ -1,6 +1,6 @@
 //! Why a call of a monitor is refused.
 ghost use Rattle.std.specs.Prelude.{◌≡◌};
-ghost use Rattle.reference.specs.Refusals.{number, from_start, from-decide};
+ghost use Rattle.reference.specs.Refusals.{number, from_start, from_decide};
 
 use policies::{DecideRefusal, StartRefusal};
 
@@ -51,7 +51,7 @@ impl From<StartRefusal> for Refusal {
 }
 
 impl From<DecideRefusal> for Refusal {
-    ghost from_gives = { λ f r. r ≡ from-decide f };
+    ghost from_gives = { λ f r. r ≡ from_decide f };
 
     fn from(refusal: DecideRefusal) -> Refusal {
         match refusal {

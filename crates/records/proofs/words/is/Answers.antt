@@ -1,9 +1,7 @@
 use Rattle.std.proofs.Common.{rules}
-use Rattle.std.proofs.lemmas.Slice.Eq.{slice_eq-Decides, bytes_eq-Decides}
 use Rattle.records.specs.Words.{says}
 use Rattle.records.proofs.words.is.Goals as goal
-use Rattle.std.proofs.lemmas.Bool.Decides.{Decides-eqb}
 
 pub returns : goal.returns
 unfolding says
-returns c = let d = slice_eq-Decides Decides-eqb _ _ _ c.eq.ensures in search (rules, bytes_eq-Decides)
+returns c = search rules
