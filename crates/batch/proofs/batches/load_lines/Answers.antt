@@ -12,7 +12,7 @@ pub loop-line-preserved : goal.loop-line-preserved
 loop-line-preserved g c =
     let d = c.in_ok-loaded.ensures in (
       c.in-Some.ensures.within,
-      wrote (vec_items c.loop-line.out) (vec_items c.put.new.out) _ _ _ _ c.in_ok-put.ensures
+      wrote (vec_items c.loop-line.out) (vec_items c.put.new.out) _ _ _ _ c.in_ok-put-in-Came.ensures
           (loading_more g.P.Policy.model blank_rows blank_places (vec_items c.loop-line.objects) (vec_items c.load_line.new.objects)
           c.loop-line.lines.taken c.next_line.new.self.taken c.in-Some.line.now (lines_left c.loop-line.lines) (lines_left c.next_line.new.self) _
           c.in-Some.ensures.left c.in-Some.ensures.taken (sym c.in-Came.is ∙ d.0) d.1)

@@ -8,7 +8,7 @@ use Rattle.batch.proofs.batches.wait_lines.Goals as goal
 pub loop-line-preserved : goal.loop-line-preserved
 loop-line-preserved c = (
   c.in-Some.ensures.within,
-  wrote (vec_items c.loop-line.out) (vec_items c.put-in-Err.new.out) _ _ _ _ c.in_ok-put-2.ensures
+  wrote (vec_items c.loop-line.out) (vec_items c.put-in-Err.new.out) _ _ _ _ c.in_ok-put-in-Err.ensures
       (waiting_more c.loop-line.lines.taken c.next_line.new.self.taken c.in-Some.line.now (lines_left c.loop-line.lines) (lines_left c.next_line.new.self) _
       c.in-Some.ensures.left c.in-Some.ensures.taken c.in-Err.ensures)
       c.loop-line.invariant.1,
@@ -21,7 +21,7 @@ returns-in-Ok c =
     IfOk-weaker c.follow.result
     (λ _. vec_items c.follow.new.out ≡ vec_items c.put.new.out ++ under c.in-Ok.name (taken + 1) left)
     (λ _. vec_items c.follow.new.out ≡ vec_items c.args.out.now ++ waiting (c.args.lines.now.taken + 1) (lines_left c.args.lines.now))
-    (λ _ e. e ∙ wrote (vec_items c.loop-line.out) (vec_items c.put.new.out) _ _ _ _ c.in_ok-put.ensures
+    (λ _ e. e ∙ wrote (vec_items c.loop-line.out) (vec_items c.put.new.out) _ _ _ _ c.in_ok-put-in-Ok.ensures
     (waiting_chosen c.loop-line.lines.taken taken c.in-Some.line.now (lines_left c.loop-line.lines) left _
     c.in-Some.ensures.left c.in-Some.ensures.taken c.in-Ok.ensures)
     c.loop-line.invariant.1)
