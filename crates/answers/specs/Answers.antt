@@ -1,5 +1,5 @@
 -- What a record of a batch comes to, and the record that says so.
-use Rattle.std.specs.Prelude.{ℕ, List, [], ◌∷◌, ◌++◌, Ok, Err, codes, decimal, Result}
+use Rattle.std.specs.Prelude.{ℕ, List, ◌++◌, Ok, Err, codes, decimal, Result}
 use Rattle.policies.specs.declared.verdicts.Verdict.{Verdict}
 use Rattle.policies.specs.declared.verdicts.Verdict.TheVariants.{Granted, Clearance, History}
 use Rattle.reference.specs.Refusals.{number}

@@ -1,5 +1,5 @@
 -- What is written, a record at a time.
-use Rattle.std.proofs.Common.{◌≡◌, ℕ, ◌+◌, List, [], ◌∷◌, ◌++◌, Ok, Err, Result, sym, refl, ap, ◌∙◌, append_assoc, arith}
+use Rattle.std.proofs.Common.{◌≡◌, ℕ, ◌+◌, List, ◌∷◌, ◌++◌, Ok, Err, Result, sym, refl, ap, ◌∙◌, append_assoc, arith}
 use Rattle.labels.specs.declared.grades.GradeLabel.{GradeLabel}
 use Rattle.policies.specs.Model.{Model}
 use Rattle.reference.specs.declared.entries.Entry.{Entry}

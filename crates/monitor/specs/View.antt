@@ -1,5 +1,5 @@
 -- A monitor as plain lists, and what each call finds, answers and leaves.
-use Rattle.std.specs.Prelude.{ℕ, List, [], ◌∷◌, ◌++◌, length, take, drop, Ok, Err, Result, slice_set}
+use Rattle.std.specs.Prelude.{ℕ, List, [], ◌∷◌, ◌++◌, length, take, drop, Ok, Result, slice_set}
 use Rattle.std.specs.List.{slice_get}
 use Rattle.std.specs.Option.{ok_or}
 use Rattle.policies.specs.Model.{Model}

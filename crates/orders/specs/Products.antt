@@ -1,5 +1,5 @@
 -- Two lattices make one, part by part; and a lattice on a view of a type is one on the type.
-use Rattle.std.specs.Prelude.{◌≡◌, true, ◌&&◌, refl}
+use Rattle.std.specs.Prelude.{◌≡◌, ◌&&◌, refl}
 use Rattle.std.proofs.Common.{sym, ap, ◌∙◌}
 use Rattle.std.proofs.lemmas.Bool.{and_parts, and_from}
 use Rattle.orders.specs.Order.{Order, Lattice}

@@ -3,7 +3,7 @@ use Rattle.std.proofs.Common.{◌≡◌, Bool, true, cond, ◌&&◌, Ok, refl, a
 use mathlib.Core.Bool.{and_comm}
 use Rattle.orders.specs.Order.{Order}
 use Rattle.policies.specs.Kinds.{reads, writes, needed, reversed}
-use Rattle.policies.specs.Model.{Model, ruled, permitted, admitted, Starts, Moves, Decides, Meaning}
+use Rattle.policies.specs.Model.{Model, ruled, permitted, admitted, Decides, Meaning}
 use Rattle.policies.specs.Views.{reversed_model, map_ok, map_marks, kept_model}
 use Rattle.policies.specs.declared.verdicts.Kind.{Kind}
 use Rattle.policies.specs.declared.verdicts.Kind.TheVariants.{Read, Write, Both}

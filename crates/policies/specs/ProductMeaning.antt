@@ -1,12 +1,12 @@
 -- The product of two policies is a policy.
 use Rattle.std.specs.Prelude.{◌≡◌, Bool, true, false, cond, ◌&&◌, Ok, Err, Result, refl}
 use Rattle.std.proofs.Common.{sym, ap, ap₂, ◌∙◌, subst, ⊎_elim}
-use Rattle.std.proofs.lemmas.Bool.{and_parts, and_from, and_cases, cond-true, cond-false, false≢true}
+use Rattle.std.proofs.lemmas.Bool.{and_parts, and_from, and_cases, cond-true, cond-false}
 use Rattle.orders.specs.Order.{Order}
 use Rattle.orders.specs.Pairs.{pair, pair_order}
 use Rattle.orders.specs.declared.pairs.Pair.{Pair}
 use Rattle.policies.specs.Kinds.{reads, writes, needed}
-use Rattle.policies.specs.Model.{Model, ruled, permitted, admitted, Starts, Moves, Decides, Meaning}
+use Rattle.policies.specs.Model.{Model, ruled, permitted, admitted, Moves, Decides, Meaning}
 use Rattle.policies.specs.Product.{combined, marks_after, both_decide, both_ok, product_model}
 use Rattle.policies.specs.declared.verdicts.Kind.{Kind}
 use Rattle.policies.specs.declared.verdicts.Kind.TheVariants.{Read, Write, Both}

@@ -1,5 +1,5 @@
 -- A record by its fields, once its word is known.
-use Rattle.std.proofs.Common.{◌≡◌, ℕ, List, [], ◌∷◌, Ok, Err, Result, refl, arith}
+use Rattle.std.proofs.Common.{◌≡◌, ℕ, List, ◌∷◌, Ok, Err, Result, arith}
 use Rattle.faults.specs.declared.layers.FieldCause.{FieldCause}
 use Rattle.faults.specs.declared.layers.FieldFault.{FieldFault}
 use Rattle.faults.specs.declared.layers.RecordCause.{RecordCause}

@@ -1,6 +1,6 @@
 -- The steps of the fields' readers, over lists.
-use Rattle.std.proofs.Common.{◌≡◌, ℕ, ◌+◌, ◌-◌, ◌*◌, ◌/◌, ◌%◌, ◌^◌, ◌<◌, ◌≤◌, Bool, true, false, cond, not, ◌&&◌, ◌||◌, eqb, ltb, leb, ◌⊎◌, List, [], ◌∷◌, ◌++◌, length, get_or, take, drop, set, Some, None, Ok, Err, Result, sym, refl, ap, ◌∙◌, inl, inr, arith}
-use Rattle.std.proofs.lemmas.List.{drop_more, drop_all, take_rest, drop-drop, drop-set-lt, length-take-le}
+use Rattle.std.proofs.Common.{◌≡◌, ℕ, ◌+◌, ◌-◌, ◌*◌, ◌<◌, ◌≤◌, Bool, true, false, cond, ltb, ◌⊎◌, List, [], ◌∷◌, ◌++◌, length, get_or, take, drop, Some, None, Ok, Err, sym, refl, ap, ◌∙◌, arith}
+use Rattle.std.proofs.lemmas.List.{drop_more, drop_all, length-take-le}
 use Rattle.std.proofs.lemmas.Bool.{le-ltb}
 use Rattle.std.proofs.lemmas.Bool.Decides.{nat_tests}
 use Rattle.labels.specs.declared.grades.GradeLabel.{GradeLabel}
@@ -9,9 +9,6 @@ use Rattle.tags.specs.Tag.{tag_of}
 use Rattle.faults.specs.declared.layers.FieldCause.TheVariants.{Tag}
 use Rattle.records.specs.Fields.{stray, stray_from}
 use Rattle.records.specs.Texts.{digits_from, number_of, base16, is_hex, hex_value, hex_digit, written_label}
-use Rattle.faults.specs.Faults.{at_field, placed_of, passed}
-use Rattle.faults.specs.declared.layers.Placed.{Placed}
-use Rattle.faults.specs.declared.layers.FieldCause.{FieldCause}
 use native.Mathlib.Nat.{sub-zero}
 
 pub digits_more : (v i : ℕ) (xs : List ℕ) → i < length xs → i < 5 → 48 ≤ get_or xs i 0 → get_or xs i 0 ≤ 57

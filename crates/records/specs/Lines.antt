@@ -1,7 +1,6 @@
 -- What a record says as a whole.
 use Rattle.std.specs.Prelude.{ℕ, cond, List, [], ◌∷◌, length, Some, None, Ok, Err, Option, Result, nat_lt}
 use Rattle.policies.specs.declared.verdicts.Kind.{Kind}
-use Rattle.faults.specs.declared.layers.FieldCause.TheVariants.{Word as no_word}
 use Rattle.faults.specs.declared.layers.FieldFault.{FieldFault}
 use Rattle.faults.specs.declared.layers.RecordCause.{RecordCause}
 use Rattle.faults.specs.declared.layers.RecordCause.TheVariants.{TooLong, Stray, FieldCount, Field}

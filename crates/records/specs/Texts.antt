@@ -1,7 +1,6 @@
 -- What the text of a field says: a number, or a label.
 use Rattle.std.specs.Prelude.{◌≡◌, ℕ, ◌+◌, ◌-◌, ◌*◌, ◌≤◌, Bool, cond, not, ◌&&◌, ◌||◌, List, [], ◌∷◌, ◌++◌, length, take, Some, None, Ok, Err, Option, Result, ◌==◌, nat_le, nat_lt, slice_index}
 use Rattle.labels.specs.declared.grades.GradeLabel.{GradeLabel}
-use Rattle.tags.specs.declared.faults.TagFault.{TagFault}
 use Rattle.tags.specs.Tag.{tag_of}
 use Rattle.faults.specs.declared.layers.NumberFault.{NumberFault}
 use Rattle.faults.specs.declared.layers.Base16Fault.{Base16Fault}

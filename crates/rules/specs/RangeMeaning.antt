@@ -1,12 +1,12 @@
 -- What the shared rules mean, from the laws of the order.
-use Rattle.std.specs.Prelude.{◌≡◌, Bool, true, false, cond, ◌&&◌, ◌||◌, Ok, Err, refl}
+use Rattle.std.specs.Prelude.{◌≡◌, Bool, true, cond, ◌&&◌, Ok, refl}
 use Rattle.std.proofs.Common.{sym, ap, ◌∙◌, subst}
 use Rattle.std.proofs.Math.Bool.{and_assoc}
 use Rattle.std.proofs.lemmas.Bool.{and_parts, and_from, cond-true, cond-false}
 use Rattle.orders.specs.Order.{Order, Lattice}
 use Rattle.policies.specs.Kinds.{needed}
 use Rattle.policies.specs.Model.{ruled, Starts, Moves, Decides, Meaning}
-use Rattle.rules.specs.Range.{ordered, permits, cleared, moved, range_start, range_decide, range_model}
+use Rattle.rules.specs.Range.{ordered, permits, cleared, moved, range_model}
 use Rattle.policies.specs.declared.verdicts.Kind.{Kind}
 use Rattle.policies.specs.declared.verdicts.Kind.TheVariants.{Read, Write, Both}
 use Rattle.rules.specs.declared.ranges.LabelRange.{LabelRange}

@@ -1,11 +1,11 @@
 -- The categories of a list that is read.
-use Rattle.std.proofs.Common.{◌≡◌, ℕ, ◌+◌, ◌-◌, ◌*◌, ◌/◌, ◌%◌, ◌^◌, ◌<◌, ◌≤◌, Bool, true, false, cond, ◌&&◌, ◌||◌, eqb, ltb, ◌⊎◌, List, [], ◌∷◌, ◌++◌, length, get_or, set, replicate, Ok, Err, Result, sym, refl, ap, ◌∙◌, inl, inr, arith, length-set}
+use Rattle.std.proofs.Common.{◌≡◌, ℕ, ◌+◌, ◌*◌, ◌/◌, ◌%◌, ◌^◌, ◌<◌, Bool, true, false, cond, ◌||◌, eqb, ltb, List, [], ◌∷◌, length, get_or, Ok, Result, refl, ap, ◌∙◌, inl, inr, arith, length-set}
 use lib.Bits.{bit_or}
-use Rattle.std.proofs.lemmas.List.{get_or-set_same, get_or-set_other, get_or_past, set_past, length-replicate, get_or-replicate}
+use Rattle.std.proofs.lemmas.List.{get_or-set_same, get_or-set_other, get_or_past, set_past, get_or-replicate}
 use Rattle.std.proofs.lemmas.Nat.{or_lt, shr_le}
-use Rattle.std.proofs.lemmas.Bool.{cases_eq, cases_lt, cases_Bool}
+use Rattle.std.proofs.lemmas.Bool.{cases_eq, cases_lt}
 use Rattle.std.proofs.lemmas.Bool.Decides.{nat_tests}
-use Rattle.labels.specs.Map.{map_of, label_of, has, in_map}
+use Rattle.labels.specs.Map.{label_of, has, in_map}
 use Rattle.tags.specs.Tag.{marked, list_of, listed, empty, fault, ListReads, MapReads}
 use Rattle.labels.specs.declared.grades.GradeLabel.{GradeLabel}
 use Rattle.tags.specs.declared.faults.TagFault.{TagFault}

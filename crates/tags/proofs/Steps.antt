@@ -1,13 +1,12 @@
 -- The steps of the readers, over lists.
-use Rattle.std.proofs.Common.{◌≡◌, ℕ, ◌+◌, ◌-◌, ◌*◌, ◌/◌, ◌%◌, ◌^◌, ◌<◌, ◌≤◌, Bool, true, false, cond, not, ◌&&◌, ◌||◌, eqb, ltb, leb, ◌⊎◌, List, [], ◌∷◌, ◌++◌, length, get_or, take, drop, set, Ok, Err, Result, sym, refl, ap, ◌∙◌, inl, inr, add_comm, add-sub_cancel, arith}
-use borrow.Rule.Slice.PartMut.{put_mid}
+use Rattle.std.proofs.Common.{◌≡◌, ℕ, ◌+◌, ◌-◌, ◌*◌, ◌%◌, ◌≤◌, List, [], ◌∷◌, length, get_or, take, drop, Ok, Result, arith}
 use native.Mathlib.Nat.{sub-zero}
-use Rattle.std.proofs.lemmas.List.{take_rest, drop-drop}
+use Rattle.std.proofs.lemmas.List.{take_rest}
 use Rattle.std.proofs.lemmas.Bool.Decides.{nat_tests}
 use Rattle.labels.specs.Map.{label_of}
 use Rattle.labels.specs.declared.grades.GradeLabel.{GradeLabel}
 use Rattle.tags.specs.declared.faults.TagFault.{TagFault}
-use Rattle.tags.specs.Tag.{tag_of, list_of, marked, sized, empty, body_of}
+use Rattle.tags.specs.Tag.{tag_of, list_of, marked, sized, empty}
 
 -- one category of a list
 pub list_of_more : (g : ℕ) (m : List ℕ) (least at : ℕ) (xs : List ℕ) (c : ℕ) → 2 ≤ length xs → c ≡ get_or xs 0 0 * 256 + get_or xs 1 0

@@ -1,5 +1,5 @@
 -- The octets of a tag, and the label that they stand for.
-use Rattle.std.specs.Prelude.{◌≡◌, ℕ, ◌+◌, ◌-◌, ◌*◌, ◌/◌, ◌%◌, ◌^◌, ◌<◌, ◌≤◌, Bool, true, false, cond, not, ◌&&◌, ◌||◌, List, [], ◌∷◌, length, take, drop, replicate, Ok, Err, Result, ◌==◌, bit_or, nat_lt, slice_index, slice_set}
+use Rattle.std.specs.Prelude.{◌≡◌, ℕ, ◌+◌, ◌-◌, ◌*◌, ◌/◌, ◌%◌, ◌^◌, ◌<◌, Bool, false, cond, not, ◌&&◌, ◌||◌, List, [], ◌∷◌, length, take, drop, replicate, Ok, Err, Result, ◌==◌, bit_or, nat_lt, slice_index, slice_set}
 use Rattle.labels.specs.Map.{label_of, has, in_map}
 use Rattle.labels.specs.declared.grades.GradeLabel.{GradeLabel}
 use Rattle.tags.specs.declared.faults.TagFault.{TagFault}

@@ -1,6 +1,6 @@
-use Rattle.std.proofs.Common.{◌≡◌, ℕ, ◌+◌, List, [], ◌++◌, ap, ◌∙◌}
+use Rattle.std.proofs.Common.{ℕ, ◌+◌, List, ◌++◌, ap, ◌∙◌}
 use Rattle.batch.specs.Batch.{waiting, batch_of}
-use Rattle.batch.specs.Lines.{lines_left, lines_of}
+use Rattle.batch.specs.Lines.{lines_left}
 use Rattle.batch.proofs.batches.run_batch.Goals as goal
 
 pub returns : goal.returns

@@ -1,4 +1,3 @@
-use Rattle.std.proofs.Common.{◌+◌}
 use Rattle.monitor.specs.View.{view}
 use Rattle.batch.specs.Lines.{lines_left}
 use Rattle.batch.proofs.Runs.{wrote, serving_more}

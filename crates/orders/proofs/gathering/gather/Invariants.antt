@@ -1,4 +1,4 @@
-use Rattle.std.proofs.Common.{◌≡◌, ◌≤◌, length, take}
+use Rattle.std.proofs.Common.{◌≡◌, take}
 use Rattle.orders.specs.Bounds.{gathered}
 use Rattle.orders.proofs.gathering.gather.Given as goal
 

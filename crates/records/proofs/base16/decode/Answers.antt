@@ -1,4 +1,4 @@
-use Rattle.std.proofs.Common.{◌≡◌, ℕ, ◌+◌, ◌-◌, ◌*◌, ◌<◌, ◌≤◌, length, get_or, take, drop, set, sym, ap, ◌∙◌, arith, length-drop, rules}
+use Rattle.std.proofs.Common.{◌≡◌, ℕ, ◌+◌, ◌*◌, ◌<◌, ◌≤◌, length, take, arith, length-drop, rules}
 use Rattle.std.proofs.lemmas.List.{take_rest, take_more_set}
 use Rattle.records.proofs.Steps.{base16_more}
 use Rattle.records.proofs.base16.decode.Goals as goal

@@ -1,4 +1,4 @@
-use Rattle.std.proofs.Common.{◌≡◌, ℕ, ◌+◌, ◌*◌, ◌≤◌, [], length, take, drop}
+use Rattle.std.proofs.Common.{◌≡◌, ◌+◌, ◌*◌, [], length, take}
 use Rattle.records.specs.Texts.{base16}
 use Rattle.records.proofs.base16.decode.Given as goal
 

@@ -1,4 +1,4 @@
-use Rattle.std.proofs.Common.{◌≡◌, ℕ, ◌<◌, ◌⊎◌, get_or, sym, ◌∙◌, inl, inr, arith, pow-add, rules}
+use Rattle.std.proofs.Common.{◌≡◌, ◌<◌, ◌⊎◌, get_or, sym, ◌∙◌, arith, pow-add, rules}
 use Rattle.std.proofs.lemmas.Bool.Decides.{nat_tests}
 use Rattle.records.proofs.Steps.{digits_more, digits_stop, digits_end, number_digits}
 use Rattle.records.proofs.numbers.read_number.Goals as goal

@@ -1,6 +1,5 @@
-use Rattle.std.proofs.Common.{◌≡◌, ℕ, ◌+◌, ◌^◌, ◌<◌, ◌≤◌, List, [], length, drop, refl, arith, rules}
+use Rattle.std.proofs.Common.{◌≡◌, ◌+◌, ◌^◌, ◌<◌, ◌≤◌, length, refl, arith, rules}
 use Rattle.std.proofs.lemmas.List.{drop_all}
-use Rattle.batch.specs.Lines.{lines_of}
 use Rattle.batch.proofs.Splits.{line_at, goes_on}
 use Rattle.batch.proofs.lines.Lines.next_line.Goals as goal
 
