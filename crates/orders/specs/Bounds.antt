@@ -1,6 +1,5 @@
 -- The lowest label that dominates each of a list.
-use Rattle.std.specs.Prelude.{◌≡◌, true, List, [], fold}
-use Rattle.std.specs.List.{AllByRecursion as All}
+use Rattle.std.specs.Prelude.{◌≡◌, true, List, [], All, fold}
 use Rattle.orders.specs.Order.{Order}
 
 module _ {L : Type 0} (order : Order L) where
