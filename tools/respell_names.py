@@ -46,14 +46,14 @@ writes-reversed written-label wrong-length yes-here
 # Names that the kit's script turned itself; the pages still had the old ones.
 PAGES = """
 above-low add-row and-assoc and-last and-then at-field at-of below-both blank-of body-of both-ok by-bits by-call
-by-word digits-from digits-more field-of from-start getD-zip goes-on in-map in-order label-of length-more line-after
+by-word digits-from digits-more field-of from-start goes-on in-map in-order label-of length-more line-after
 line-at lines-left lines-of list-of load-after map-of mask-is meet-left meet-right no-test none-of number-digits
 number-of of-fields open-row or-assoc placed-of places-of record-of refused-as rest-all rest-from rest-more same-bit
 same-place spare-of tag-of went-on with-classes with-two word-of word-ok
 """.split()
 
-# Names of the library that the kit's script left, since one file had both spellings of them.
-LEFT = {"bit-and": "bit_and", "bit-or": "bit_or", "bitAnd": "bit_and", "bitOr": "bit_or"}
+# Names of the library that the kit's script left, since one file had both spellings of them, and one that it garbled.
+LEFT = {"bit-and": "bit_and", "bit-or": "bit_or", "bitAnd": "bit_and", "bitOr": "bit_or", "get_d_zip": "get_or_zip"}
 
 TURNED = {w: w.replace("-", "_") for w in WORDS + PAGES} | LEFT
 WHOLE = re.compile(r"(?<![\w'-])(" + "|".join(sorted(map(re.escape, TURNED), key=len, reverse=True)) + r")(?![\w'-])")

@@ -17,11 +17,11 @@ module _ (f : ℕ → ℕ → ℕ) (shr : (a b k : ℕ) → f a b / 2 ^ k ≡ f 
   zip (x ∷ xs) [] = []
   zip (x ∷ xs) (y ∷ ys) = f x y ∷ zip xs ys
 
-  get_d_zip : (xs ys : List ℕ) → length xs ≡ length ys → (k : ℕ) → k < length xs → get_or (zip xs ys) k 0 ≡ f (get_or xs k 0) (get_or ys k 0)
-  get_d_zip [] ys e k h = absurd (omega arith)
-  get_d_zip (x ∷ xs) [] e k h = absurd (omega arith)
-  get_d_zip (x ∷ xs) (y ∷ ys) e zero h = refl
-  get_d_zip (x ∷ xs) (y ∷ ys) e (suc k) h = get_d_zip xs ys (omega arith) k (omega arith)
+  get_or_zip : (xs ys : List ℕ) → length xs ≡ length ys → (k : ℕ) → k < length xs → get_or (zip xs ys) k 0 ≡ f (get_or xs k 0) (get_or ys k 0)
+  get_or_zip [] ys e k h = absurd (omega arith)
+  get_or_zip (x ∷ xs) [] e k h = absurd (omega arith)
+  get_or_zip (x ∷ xs) (y ∷ ys) e zero h = refl
+  get_or_zip (x ∷ xs) (y ∷ ys) e (suc k) h = get_or_zip xs ys (omega arith) k (omega arith)
 
   field : (v w k : ℕ) → f v w / 2 ^ k % 256 ≡ f (v / 2 ^ k % 256) (w / 2 ^ k % 256)
   field v w k = ap (λ (x : ℕ). x % 256) (shr v w k) ∙ low (v / 2 ^ k) (w / 2 ^ k) 8
@@ -50,7 +50,7 @@ module _ (f : ℕ → ℕ → ℕ) (shr : (a b k : ℕ) → f a b / 2 ^ k ≡ f 
       let x : ℕ = get_or (map_of a) (n / 8) 0 in
       let y : ℕ = get_or (map_of b) (n / 8) 0 in
       ap (λ (m : List ℕ). eqb (get_or m (n / 8) 0 / 2 ^ j % 2) 1) (map_worded g a b)
-      ∙ ap (λ (o : ℕ). eqb (o / 2 ^ j % 2) 1) (get_d_zip (map_of a) (map_of b) (length_map a ∙ sym (length_map b)) (n / 8) (omega (arith, length_map a)))
+      ∙ ap (λ (o : ℕ). eqb (o / 2 ^ j % 2) 1) (get_or_zip (map_of a) (map_of b) (length_map a ∙ sym (length_map b)) (n / 8) (omega (arith, length_map a)))
       ∙ ap (λ (o : ℕ). eqb (o % 2) 1) (shr x y j)
       ∙ ap (λ (o : ℕ). eqb o 1) (low (x / 2 ^ j) (y / 2 ^ j) 1)
       ∙ bit (x / 2 ^ j % 2) (y / 2 ^ j % 2) (omega arith) (omega arith)
