@@ -1,5 +1,5 @@
 -- The map of a label's categories: thirty octets, of which the label's words are the big-endian values.
-use Rattle.std.specs.Prelude.{ℕ, ◌+◌, ◌-◌, ◌*◌, ◌/◌, ◌%◌, ◌^◌, Bool, List, [], ◌∷◌, ◌++◌, ◌==◌, slice_index}
+use Rattle.std.specs.Prelude.{◌≡◌, ℕ, ◌+◌, ◌-◌, ◌*◌, ◌/◌, ◌%◌, ◌^◌, ◌<◌, Bool, List, [], ◌∷◌, ◌++◌, ◌==◌, slice_index}
 use Rattle.labels.specs.declared.grades.GradeLabel.{GradeLabel}
 
 -- the octets of a word, high octet first
@@ -24,6 +24,10 @@ in_map m n = slice_index m (n / 8) / 2 ^ (7 - n % 8) % 2 == 1
 -- the label has category n
 abbrev pub has : GradeLabel → ℕ → Bool
 has l n = in_map (map_of l) n
+
+-- these are the n octets of a map from a place on, where an octet past the map's end is empty
+abbrev pub AreOctets : List ℕ → ℕ → ℕ → List ℕ → Type 0
+AreOctets m i n octets = (k : ℕ) → k < n → slice_index octets k ≡ slice_index m (i + k)
 
 -- the word whose octets stand in a map from a place on, where an octet past the map's end is empty
 abbrev pub be8 : List ℕ → ℕ → ℕ

@@ -1,10 +1,11 @@
 //! The grade order: a grade, and a set of categories.
-ghost use Rattle.std.specs.Prelude.{◌≡◌, ◌<◌, Decides, slice_index};
-ghost use Rattle.labels.specs.Map.{be8, be4, be2, map_of, label_of, has};
+ghost use Rattle.std.specs.Prelude.{◌≡◌, ◌+◌, ◌<◌, Decides};
+ghost use Rattle.labels.specs.Map.{AreOctets, map_of, label_of, has};
 ghost use Rattle.labels.specs.Grade.{grade_order, Covers};
 ghost use Rattle.labels.specs.GradeLattice.{grades};
 
 use orders::LabelOrder;
+use std::array;
 
 /// A grade, and a set of the categories 0 to 239. Every value is a label.
 ///
@@ -21,46 +22,12 @@ pub struct GradeLabel {
     pub grade: u8,
 }
 
-// An octet of a map that may end early: past its end every octet is empty.
-fn octet(map: &[u8], at: usize) -> u8
-    ensures { result ≡ slice_index map.now at }
+// The octets of a map from a place on. Past the map's end every octet is empty.
+fn octets<const N: usize>(map: &[u8], from: usize) -> [u8; N]
+    requires { from + N < 64 }
+    ensures { AreOctets map.now from N result }
 {
-    if at < map.len() { map[at] } else { 0 }
-}
-
-fn word8(map: &[u8], at: usize) -> u64
-    requires { at < 32 }
-    ensures { result ≡ be8 map.now at }
-{
-    u64::from_be_bytes([
-        octet(map, at),
-        octet(map, at + 1),
-        octet(map, at + 2),
-        octet(map, at + 3),
-        octet(map, at + 4),
-        octet(map, at + 5),
-        octet(map, at + 6),
-        octet(map, at + 7),
-    ])
-}
-
-fn word4(map: &[u8], at: usize) -> u32
-    requires { at < 32 }
-    ensures { result ≡ be4 map.now at }
-{
-    u32::from_be_bytes([
-        octet(map, at),
-        octet(map, at + 1),
-        octet(map, at + 2),
-        octet(map, at + 3),
-    ])
-}
-
-fn word2(map: &[u8], at: usize) -> u16
-    requires { at < 32 }
-    ensures { result ≡ be2 map.now at }
-{
-    u16::from_be_bytes([octet(map, at), octet(map, at + 1)])
+    array::from_fn(|at| map.get(from + at).copied().unwrap_or(0))
 }
 
 impl GradeLabel {
@@ -69,11 +36,11 @@ impl GradeLabel {
         ensures { result ≡ label_of grade map.now }
     {
         GradeLabel {
-            map0: word8(map, 0),
-            map8: word8(map, 8),
-            map16: word8(map, 16),
-            map24: word4(map, 24),
-            map28: word2(map, 28),
+            map0: u64::from_be_bytes(octets(map, 0)),
+            map8: u64::from_be_bytes(octets(map, 8)),
+            map16: u64::from_be_bytes(octets(map, 16)),
+            map24: u32::from_be_bytes(octets(map, 24)),
+            map28: u16::from_be_bytes(octets(map, 28)),
             grade,
         }
     }
@@ -97,7 +64,11 @@ impl GradeLabel {
     pub fn has(self, category: u8) -> bool
         ensures { result ≡ has self category }
     {
-        octet(&self.to_map(), usize::from(category / 8)) & (128 >> (category % 8)) != 0
+        let map = self.to_map();
+        match map.get(usize::from(category / 8)) {
+            Some(octet) => octet & (128 >> (category % 8)) != 0,
+            None => false,
+        }
     }
 }
 

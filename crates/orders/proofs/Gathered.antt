@@ -1,15 +1,8 @@
 -- The joins of a list are the lowest label that dominates each of it.
-use Rattle.std.proofs.Common.{◌≡◌, ℕ, ◌+◌, ◌<◌, true, List, [], ◌∷◌, length, get_or, take, fold, sym, ap, ◌∙◌, ap₂}
-use Rattle.std.proofs.lemmas.List.Sums.{fold_more}
+use Rattle.std.proofs.Common.{◌≡◌, true, List, [], ◌∷◌, fold, ap}
 use Rattle.std.proofs.lemmas.List.Elements.{All-nil, All-cons, All-head, All-tail}
 use Rattle.orders.specs.Order.{Order, Lattice}
 use Rattle.orders.specs.Bounds.{Bounds, LowestBound, gathered}
-
--- one label of the list more
-pub joined_more : {L : Type 0} (order : Order L) (xs : List L) (i : ℕ) → i < length xs → {bound x next : L}
-    → bound ≡ gathered order (take i xs) → x ≡ get_or xs i x → next ≡ order.join bound x → next ≡ gathered order (take (i + 1) xs)
-joined_more order xs i within {x = x} so_far read joined =
-    joined ∙ ap₂ order.join so_far read ∙ sym (fold_more order.join order.low xs i x within)
 
 module _ {L : Type 0} {order : Order L} (lattice : Lattice order) where
   -- what is joined so far is dominated from then on

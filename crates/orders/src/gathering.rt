@@ -9,9 +9,7 @@ pub fn gather<L: LabelOrder>(labels: &[L]) -> L
     ensures joins { result ≡ gathered L.order labels.now }
     ensures lowest { LowestBound L.order labels.now result }
 {
-    let mut bound = L::low();
-    for label in labels {
-        bound = bound.join(*label);
-    }
-    bound
+    labels
+        .iter()
+        .fold(L::low(), |bound, label| bound.join(*label))
 }
