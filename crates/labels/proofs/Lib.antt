@@ -1,4 +1,4 @@
 pub mod Octets
 pub mod Categories
 pub mod Coverage
-pub mod Formed
+pub mod Filled

@@ -1,6 +1,5 @@
 -- The rival order: that of one class, in each of eight.
-use Rattle.std.specs.Prelude.{ℕ, ◌^◌, ◌<◌, Bool, cond, ◌&&◌, List, length, Ok, Err, Result, nat_le, nat_lt, slice_index}
-use Rattle.std.specs.List.{prefix_len}
+use Rattle.std.specs.Prelude.{ℕ, ◌^◌, ◌<◌, Bool, ◌&&◌, List, Some, None, Ok, Err, Option, Result, nat_lt, position, slice_index}
 use Rattle.orders.specs.Order.{Order}
 use Rattle.labels.specs.Classes.{none, conflict, class_dominance, class_join, class_meet}
 use Rattle.labels.specs.declared.rivals.RivalLabel.{RivalLabel}
@@ -36,6 +35,17 @@ by_class f x y = record {
   class7 = f x.class7 y.class7;
 }
 
+-- the label is one that may be made of two, class by class
+pub record ByClass (made : ℕ → ℕ → ℕ → Type 0) (x y z : RivalLabel) : Type 0 where
+  pub class0 : made x.class0 y.class0 z.class0
+  pub class1 : made x.class1 y.class1 z.class1
+  pub class2 : made x.class2 y.class2 z.class2
+  pub class3 : made x.class3 y.class3 z.class3
+  pub class4 : made x.class4 y.class4 z.class4
+  pub class5 : made x.class5 y.class5 z.class5
+  pub class6 : made x.class6 y.class6 z.class6
+  pub class7 : made x.class7 y.class7 z.class7
+
 -- the same number in each class
 abbrev pub uniform : ℕ → RivalLabel
 uniform n = record { class0 = n; class1 = n; class2 = n; class3 = n; class4 = n; class5 = n; class6 = n; class7 = n }
@@ -63,10 +73,14 @@ with_classes ns = record {
   class7 = slice_index ns 7;
 }
 
--- how many classes come before the first whose number is above conflict: all of them, where there is none
-abbrev pub before_unknown : List ℕ → ℕ
-before_unknown ns = prefix_len (λ n. nat_le n conflict) ns
+-- the first class whose number is above conflict
+abbrev pub unknown_class : List ℕ → Option ℕ
+unknown_class ns = position (λ n. nat_lt conflict n) ns
+
+abbrev pub rival_unless : Option ℕ → List ℕ → Result RivalLabel UnknownBroker
+rival_unless (Some class) ns = Err (record { class = class })
+rival_unless None ns = Ok (with_classes ns)
 
 -- shut, since callers only pass it on
 unfoldable pub rival_of : List ℕ → Result RivalLabel UnknownBroker
-rival_of ns = cond (nat_lt (before_unknown ns) (length ns)) (Err (record { class = before_unknown ns })) (Ok (with_classes ns))
+rival_of ns = rival_unless (unknown_class ns) ns

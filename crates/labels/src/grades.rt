@@ -46,18 +46,17 @@ impl GradeLabel {
     }
 
     /// The map of the label's categories.
+    #[tactic(auto, unfolding(crate::specs::Map::map_of))]
     pub fn to_map(self) -> [u8; 30]
         ensures { result ≡ map_of self }
     {
-        let [a, b, c, d, e, f, g, h] = self.map0.to_be_bytes();
-        let [i, j, k, l, m, n, o, p] = self.map8.to_be_bytes();
-        let [q, r, s, t, u, v, w, x] = self.map16.to_be_bytes();
-        let [y, z, aa, ab] = self.map24.to_be_bytes();
-        let [ac, ad] = self.map28.to_be_bytes();
-        [
-            a, b, c, d, e, f, g, h, i, j, k, l, m, n, o, p, q, r, s, t, u, v, w, x, y, z, aa, ab,
-            ac, ad,
-        ]
+        let mut map = [0; 30];
+        map[0..8].copy_from_slice(&self.map0.to_be_bytes());
+        map[8..16].copy_from_slice(&self.map8.to_be_bytes());
+        map[16..24].copy_from_slice(&self.map16.to_be_bytes());
+        map[24..28].copy_from_slice(&self.map24.to_be_bytes());
+        map[28..30].copy_from_slice(&self.map28.to_be_bytes());
+        map
     }
 
     /// Whether the label has the category: none above 239.
@@ -65,10 +64,8 @@ impl GradeLabel {
         ensures { result ≡ has self category }
     {
         let map = self.to_map();
-        match map.get(usize::from(category / 8)) {
-            Some(octet) => octet & (128 >> (category % 8)) != 0,
-            None => false,
-        }
+        let octet = map.get(usize::from(category / 8)).copied().unwrap_or(0);
+        octet & (128 >> (category % 8)) != 0
     }
 }
 

@@ -1,7 +1,7 @@
 //! The rival order: in each of eight classes of rivals no broker, one broker, or conflict.
 ghost use Rattle.std.specs.Prelude.{◌≡◌};
 ghost use Rattle.labels.specs.Classes.{class_dominance, class_join, class_meet};
-ghost use Rattle.labels.specs.Rival.{rival_order, rival_of, uniform};
+ghost use Rattle.labels.specs.Rival.{rival_order, unknown_class, with_classes, rival_of, ByClass};
 ghost use Rattle.labels.specs.RivalLattice.{rivals};
 
 use orders::LabelOrder;
@@ -11,8 +11,8 @@ const NONE: u8 = 0;
 const CONFLICT: u8 = 251;
 
 /// Whose information something is, in each of eight classes of rivals: 0 is nobody's, 1 to 250 that of one broker, and
-/// 251 conflict, that of more than one. Every value is a label: 252 to 255 are taken as brokers, which `from_classes`
-/// never lets in.
+/// 251 conflict, that of more than one. Every value is a label: 252 to 255 are taken as brokers, which `try_from` never
+/// lets in.
 #[derive(Clone, Copy, PartialEq, Eq, Debug)]
 pub struct RivalLabel {
     pub class0: u8,
@@ -41,16 +41,28 @@ impl UnknownBroker {
 }
 
 impl RivalLabel {
-    /// The label with these numbers in its classes, unless one is above 251.
-    pub fn from_classes(classes: [u8; 8]) -> Result<RivalLabel, UnknownBroker>
-        ensures { result ≡ rival_of classes }
+    // The label made of two, class by class.
+    fn by_class<F: Fn(u8, u8) -> u8>(self, other: RivalLabel, make: F) -> RivalLabel
+        requires { F.IsAlwaysCallable make }
+        ensures { ByClass (F.post make) self other result }
     {
-        for (class, number) in classes.iter().enumerate() {
-            if *number > CONFLICT {
-                return Err(UnknownBroker { class });
-            }
+        RivalLabel {
+            class0: make(self.class0, other.class0),
+            class1: make(self.class1, other.class1),
+            class2: make(self.class2, other.class2),
+            class3: make(self.class3, other.class3),
+            class4: make(self.class4, other.class4),
+            class5: make(self.class5, other.class5),
+            class6: make(self.class6, other.class6),
+            class7: make(self.class7, other.class7),
         }
-        Ok(RivalLabel {
+    }
+
+    // The label with these numbers in its classes.
+    fn with_classes(classes: [u8; 8]) -> RivalLabel
+        ensures { result ≡ with_classes classes }
+    {
+        RivalLabel {
             class0: classes[0],
             class1: classes[1],
             class2: classes[2],
@@ -59,26 +71,33 @@ impl RivalLabel {
             class5: classes[5],
             class6: classes[6],
             class7: classes[7],
-        })
-    }
-
-    // The label with the same number in each class.
-    fn uniform(number: u8) -> RivalLabel
-        ensures { result ≡ uniform number }
-    {
-        RivalLabel {
-            class0: number,
-            class1: number,
-            class2: number,
-            class3: number,
-            class4: number,
-            class5: number,
-            class6: number,
-            class7: number,
         }
     }
 }
 
+// The first class whose number is above 251.
+fn unknown_class(classes: &[u8]) -> Option<usize>
+    ensures { result ≡ unknown_class classes.now }
+{
+    classes.iter().position(|number| *number > CONFLICT)
+}
+
+impl TryFrom<[u8; 8]> for RivalLabel {
+    type Error = UnknownBroker;
+
+    ghost try_from_gives = { λ classes r. r ≡ rival_of classes };
+
+    /// The label with these numbers in its classes, unless one is above 251.
+    #[tactic(auto, unfolding(crate::specs::Rival::rival_of))]
+    fn try_from(classes: [u8; 8]) -> Result<RivalLabel, UnknownBroker> {
+        match unknown_class(&classes) {
+            Some(class) => Err(UnknownBroker { class }),
+            None => Ok(RivalLabel::with_classes(classes)),
+        }
+    }
+}
+
+#[tactic(auto, unfolding(crate::specs::Classes::class_dominance))]
 fn class_dominates(a: u8, b: u8) -> bool
     ensures { result ≡ class_dominance a b }
 {
@@ -122,37 +141,19 @@ impl LabelOrder for RivalLabel {
     }
 
     fn join(self, other: RivalLabel) -> RivalLabel {
-        RivalLabel {
-            class0: join_classes(self.class0, other.class0),
-            class1: join_classes(self.class1, other.class1),
-            class2: join_classes(self.class2, other.class2),
-            class3: join_classes(self.class3, other.class3),
-            class4: join_classes(self.class4, other.class4),
-            class5: join_classes(self.class5, other.class5),
-            class6: join_classes(self.class6, other.class6),
-            class7: join_classes(self.class7, other.class7),
-        }
+        self.by_class(other, join_classes)
     }
 
     fn meet(self, other: RivalLabel) -> RivalLabel {
-        RivalLabel {
-            class0: meet_classes(self.class0, other.class0),
-            class1: meet_classes(self.class1, other.class1),
-            class2: meet_classes(self.class2, other.class2),
-            class3: meet_classes(self.class3, other.class3),
-            class4: meet_classes(self.class4, other.class4),
-            class5: meet_classes(self.class5, other.class5),
-            class6: meet_classes(self.class6, other.class6),
-            class7: meet_classes(self.class7, other.class7),
-        }
+        self.by_class(other, meet_classes)
     }
 
     fn low() -> RivalLabel {
-        RivalLabel::uniform(NONE)
+        RivalLabel::with_classes([NONE; 8])
     }
 
     fn high() -> RivalLabel {
-        RivalLabel::uniform(CONFLICT)
+        RivalLabel::with_classes([CONFLICT; 8])
     }
 
     fn attest(self) {}
