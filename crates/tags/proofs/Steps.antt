@@ -1,41 +1,60 @@
 -- The steps of the readers, over lists.
-use Rattle.std.proofs.Common.{◌≡◌, ℕ, ◌+◌, ◌-◌, ◌*◌, ◌%◌, ◌≤◌, List, [], ◌∷◌, length, get_or, take, drop, Ok, Result, arith}
-use native.Mathlib.Nat.{sub-zero}
-use Rattle.std.proofs.lemmas.List.{take_rest}
+use Rattle.std.proofs.Common.{◌≡◌, ℕ, suc, ◌+◌, ◌-◌, ◌*◌, ◌/◌, ◌<◌, ◌≤◌, cond, ◌||◌, ltb, false, List, [], ◌∷◌, length, get_or, take, drop, Ok, Result, refl, arith}
+use Rattle.std.proofs.lemmas.List.{take_rest, drop_more}
+use Rattle.std.specs.Simd.{first_chunks}
 use Rattle.std.proofs.lemmas.Bool.Decides.{nat_tests}
 use Rattle.labels.specs.Map.{label_of}
 use Rattle.labels.specs.declared.grades.GradeLabel.{GradeLabel}
 use Rattle.tags.specs.declared.faults.TagFault.{TagFault}
-use Rattle.tags.specs.Tag.{tag_of, list_of, marked, sized, empty}
+use Rattle.tags.specs.Tag.{tag_of, list_of, marked, fault, type_of, octet_of, length_of, wrong_length, body_of}
+use Rattle.tags.specs.declared.reader.TagType.{TagType}
+use Rattle.tags.specs.declared.reader.TagType.TheVariants.{Map, List as Listing}
 
--- one category of a list
-pub list_of_more : (g : ℕ) (m : List ℕ) (least at : ℕ) (xs : List ℕ) (c : ℕ) → 2 ≤ length xs → c ≡ get_or xs 0 0 * 256 + get_or xs 1 0
-    → least ≤ c → c ≤ 239 → list_of g m least at xs ≡ list_of g (marked m c) (c + 1) (at + 2) (drop 2 xs)
-list_of_more g m least at [] c h e lo hi = absurd (omega arith)
-list_of_more g m least at (a ∷ []) c h e lo hi = absurd (omega arith)
-list_of_more g m least at (a ∷ (b ∷ xs)) c h e lo hi = rw e (grind (arith, nat_tests))
+-- the label of a list, pair of octets by pair
+abbrev category : List ℕ → ℕ
+category pair = get_or pair 0 0 * 256 + get_or pair 1 0
+
+abbrev pub pairs_of : ℕ → List ℕ → ℕ → ℕ → List (List ℕ) → Result GradeLabel TagFault
+pairs_of g m least at [] = Ok (label_of g m)
+pairs_of g m least at (pair ∷ pairs) =
+    cond (ltb (category pair) least || ltb 239 (category pair)) (fault at)
+    (pairs_of g (marked m (category pair)) (category pair + 1) (at + 2) pairs)
+
+pub pairs_are : (g : ℕ) (m : List ℕ) (least at : ℕ) (xs : List ℕ) → pairs_of g m least at (first_chunks 2 (length xs / 2) xs) ≡ list_of g m least at xs
+pairs_are g m least at [] = refl
+pairs_are g m least at (a ∷ []) = refl
+pairs_are g m least at (a ∷ (b ∷ xs)) =
+    let half : length (a ∷ (b ∷ xs)) / 2 ≡ suc (length xs / 2) = omega arith in
+    rw (half, pairs_are g (marked m (a * 256 + b)) (a * 256 + b + 1) (at + 2) xs)
+
+-- one pair of a list
+pub pairs_step : (g : ℕ) (m : List ℕ) (least : ℕ) (pairs : List (List ℕ)) (i c : ℕ) → i < length pairs → c ≡ category (get_or pairs i [])
+    → pairs_of g m least (4 + 2 * i) (drop i pairs)
+    ≡ cond (ltb c least || ltb 239 c) (fault (4 + 2 * i)) (pairs_of g (marked m c) (c + 1) (4 + 2 * (i + 1)) (drop (i + 1) pairs))
+pairs_step g m least pairs i c within is =
+    let next : 4 + 2 * (i + 1) ≡ 4 + 2 * i + 2 = omega arith in
+    rw (drop_more pairs i [] within, is, next)
 
 -- a slice pattern's tail, cut from its start
-pub cut : (xs : List ℕ) (k n : ℕ) → take (n - 0) (take (length xs - k) (drop k xs)) ≡ take n (drop k xs)
-cut xs k n = simp (take_rest, sub-zero)
+pub cut : (xs : List ℕ) (k n : ℕ) → take n (take (length xs - k) (drop k xs)) ≡ take n (drop k xs)
+cut xs k n = simp (take_rest)
 
--- a head that is right
-pub record Head (xs : List ℕ) : Type 0 where
-  pub long : 4 ≤ length xs
-  pub least : 4 ≤ get_or xs 1 0
-  pub most : get_or xs 1 0 ≤ 34
-  pub within : get_or xs 1 0 ≤ length xs
-  pub empty : get_or xs 2 0 ≡ 0
+typed : (n : ℕ) (t : TagType) → type_of n ≡ Ok t → n ≡ octet_of t
+typed n Map e = grind (arith, nat_tests)
+typed n Listing e = grind (arith, nat_tests)
 
-pub tag_of_map : (xs : List ℕ) → Head xs → get_or xs 0 0 ≡ 1
-    → tag_of xs ≡ Ok (label_of (get_or xs 3 0) (take (get_or xs 1 0 - 4) (drop 4 xs)), get_or xs 1 0)
-tag_of_map xs h k = grind (arith, nat_tests)
+measured : (t : TagType) (w n whole : ℕ) → length_of t w n ≡ Ok whole → (w ≡ whole) × (wrong_length (octet_of t) w n ≡ false)
+measured t w n whole e = grind (arith, nat_tests)
 
-pub tag_of_list : (xs : List ℕ) → Head xs → get_or xs 0 0 ≡ 2 → get_or xs 1 0 % 2 ≡ 0
-    → tag_of xs ≡ sized (get_or xs 1 0) (list_of (get_or xs 3 0) empty 0 4 (take (get_or xs 1 0 - 4) (drop 4 xs)))
-tag_of_list xs h k e = grind (arith, nat_tests)
-
--- the same, as the code has it: r is what the list's reader returned
-pub tag_of_listed : (xs : List ℕ) → Head xs → get_or xs 0 0 ≡ 2 → get_or xs 1 0 % 2 ≡ 0 → (w : ℕ) → w ≡ get_or xs 1 0 → (r : Result GradeLabel TagFault)
-    → r ≡ list_of (get_or xs 3 0) empty 0 4 (take (w - 4 - 0) (take (length xs - 4) (drop 4 xs))) → tag_of xs ≡ sized w r
-tag_of_listed xs h k e w eq r is = rw (tag_of_list xs h k e, is, cut xs 4 (w - 4), eq)
+-- a tag whose head is right
+pub tag_read : (xs : List ℕ) (t : TagType) (whole : ℕ) → 4 ≤ length xs → type_of (get_or xs 0 0) ≡ Ok t
+    → length_of t (get_or xs 1 0) (length xs) ≡ Ok whole → get_or xs 2 0 ≡ 0
+    → tag_of xs ≡ body_of (octet_of t) (get_or xs 3 0) whole (take (whole - 4) (take (length xs - 4) (drop 4 xs)))
+tag_read xs Map whole long kind length_is zero_is =
+    let known = typed (get_or xs 0 0) Map kind in
+    let (is, right) = measured Map (get_or xs 1 0) (length xs) whole length_is in
+    rw (cut xs 4 (whole - 4)) (grind (arith, nat_tests))
+tag_read xs Listing whole long kind length_is zero_is =
+    let known = typed (get_or xs 0 0) Listing kind in
+    let (is, right) = measured Listing (get_or xs 1 0) (length xs) whole length_is in
+    rw (cut xs 4 (whole - 4)) (grind (arith, nat_tests))

@@ -3,6 +3,8 @@ use Rattle.std.specs.Prelude.{◌≡◌, ℕ, ◌+◌, ◌-◌, ◌*◌, ◌/◌
 use Rattle.labels.specs.Map.{label_of, has, in_map}
 use Rattle.labels.specs.declared.grades.GradeLabel.{GradeLabel}
 use Rattle.tags.specs.declared.faults.TagFault.{TagFault}
+use Rattle.tags.specs.declared.reader.TagType.{TagType}
+use Rattle.tags.specs.declared.reader.TagType.TheVariants.{Map, List as Listing}
 
 -- a map with no category
 abbrev pub empty : List ℕ
@@ -30,6 +32,18 @@ known_type kind = kind == 1 || kind == 2
 -- a length that no tag of this type has, or that goes past the input
 abbrev pub wrong_length : ℕ → ℕ → ℕ → Bool
 wrong_length kind whole input = nat_lt whole 4 || (nat_lt 34 whole || (nat_lt input whole || (kind == 2 && whole % 2 == 1)))
+
+-- the octet of a type, and the type that an octet names
+abbrev pub octet_of : TagType → ℕ
+octet_of Map = 1
+octet_of Listing = 2
+
+abbrev pub type_of : ℕ → Result TagType TagFault
+type_of n = cond (n == 1) (Ok Map) (cond (n == 2) (Ok Listing) (fault 0))
+
+-- the length that octet 1 gives to a tag of a type, in an input of this length
+abbrev pub length_of : TagType → ℕ → ℕ → Result ℕ TagFault
+length_of kind whole input = cond (wrong_length (octet_of kind) whole input) (fault 1) (Ok whole)
 
 -- a label, with the length of its tag
 abbrev pub sized : ℕ → Result GradeLabel TagFault → Result (GradeLabel × ℕ) TagFault

@@ -4,20 +4,49 @@
 //! the map of the categories, of which empty octets at the end may be left out. Type 2 goes on with the categories
 //! themselves, of two octets each, high octet first and strictly rising.
 ghost use Rattle.std.specs.Prelude.{◌≡◌, ◌<◌, ◌≤◌, length};
-ghost use Rattle.tags.specs.Tag.{tag_of, list_of, marked, empty, ListReads, MapReads};
+ghost use Rattle.tags.specs.Tag.{type_of, length_of, tag_of, list_of, marked, empty, ListReads, MapReads};
 
 use crate::faults::TagFault;
 use labels::GradeLabel;
-
-const MAP_TYPE: u8 = 1;
-
-const LIST_TYPE: u8 = 2;
 
 const HEAD: usize = 4;
 
 const LONGEST: usize = 34;
 
 const LAST_CATEGORY: u16 = 239;
+
+// How a tag writes its categories.
+#[derive(Clone, Copy, PartialEq, Eq)]
+enum TagType {
+    Map,
+    List,
+}
+
+impl TryFrom<u8> for TagType {
+    type Error = TagFault;
+
+    ghost try_from_gives = { λ octet r. r ≡ type_of octet };
+
+    fn try_from(octet: u8) -> Result<TagType, TagFault> {
+        match octet {
+            1 => Ok(TagType::Map),
+            2 => Ok(TagType::List),
+            _ => Err(TagFault { octet: 0 }),
+        }
+    }
+}
+
+// The length of a whole tag, by its second octet, where so much of the input is left.
+fn tag_length(tag_type: TagType, octet: u8, left: usize) -> Result<usize, TagFault>
+    ensures { result ≡ length_of tag_type octet left }
+{
+    let whole = usize::from(octet);
+    let odd = tag_type == TagType::List && whole % 2 == 1;
+    if whole < HEAD || whole > LONGEST || whole > left || odd {
+        return Err(TagFault { octet: 1 });
+    }
+    Ok(whole)
+}
 
 // Puts a category into a map.
 fn mark(map: &mut [u8; 30], category: u8)
@@ -34,17 +63,16 @@ fn read_list(grade: u8, list: &[u8]) -> Result<GradeLabel, TagFault>
 {
     let mut map = [0u8; 30];
     let mut least = 0u16;
-    let mut at = HEAD;
-    let mut left = list;
-    while let [high, low, rest @ ..] = left {
-        let category = u16::from(*high) * 256 + u16::from(*low);
+    let (pairs, _) = list.as_chunks::<2>();
+    for (place, pair) in pairs.iter().enumerate() {
+        let category = u16::from_be_bytes(*pair);
         if category < least || category > LAST_CATEGORY {
-            return Err(TagFault { octet: at });
+            return Err(TagFault {
+                octet: HEAD + 2 * place,
+            });
         }
         mark(&mut map, category as u8);
         least = category + 1;
-        at += 2;
-        left = rest;
     }
     Ok(GradeLabel::from_map(grade, &map))
 }
@@ -53,31 +81,23 @@ fn read_list(grade: u8, list: &[u8]) -> Result<GradeLabel, TagFault>
 pub fn read_tag(input: &[u8]) -> Result<(GradeLabel, usize), TagFault>
     ensures { result ≡ tag_of input.now }
 {
-    match input {
-        [] => Err(TagFault { octet: 0 }),
-        [kind, ..] if *kind != MAP_TYPE && *kind != LIST_TYPE => Err(TagFault { octet: 0 }),
-        [kind, length, zero, grade, rest @ ..] => {
-            let whole = usize::from(*length);
-            let odd = whole % 2 == 1;
-            if whole < HEAD
-                || whole > LONGEST
-                || whole > input.len()
-                || (*kind == LIST_TYPE && odd)
-            {
-                return Err(TagFault { octet: 1 });
-            }
-            if *zero != 0 {
-                return Err(TagFault { octet: 2 });
-            }
-            let body = &rest[0..whole - HEAD];
-            if *kind == MAP_TYPE {
-                return Ok((GradeLabel::from_map(*grade, body), whole));
-            }
-            let label = read_list(*grade, body)?;
-            Ok((label, whole))
-        }
-        _ => Err(TagFault { octet: 1 }),
+    let [first, ..] = input else {
+        return Err(TagFault { octet: 0 });
+    };
+    let tag_type = TagType::try_from(*first)?;
+    let [_, length, zero, grade, rest @ ..] = input else {
+        return Err(TagFault { octet: 1 });
+    };
+    let whole = tag_length(tag_type, *length, input.len())?;
+    if *zero != 0 {
+        return Err(TagFault { octet: 2 });
     }
+    let body = &rest[..whole - HEAD];
+    let label = match tag_type {
+        TagType::Map => GradeLabel::from_map(*grade, body),
+        TagType::List => read_list(*grade, body)?,
+    };
+    Ok((label, whole))
 }
 
 /// A theorem, and no code: a tag that is read has the categories that its octets write, and no other.

@@ -1,10 +1,7 @@
-use Rattle.std.proofs.Common.{◌≡◌, ◌+◌, ◌≤◌, length}
+use Rattle.std.proofs.Common.{◌≡◌, ◌+◌, ◌*◌, length, drop}
 use Rattle.tags.specs.Tag.{list_of, empty}
+use Rattle.tags.proofs.Steps.{pairs_of}
 use Rattle.tags.proofs.reader.read_list.Given as goal
 
-abbrev pub invariant-loop-left : goal.invariant-loop-left
-invariant-loop-left l = (length l.map ≡ 30) × (l.at + length l.left ≤ 34)
-    × (list_of l.grade l.map l.least l.at l.left ≡ list_of l.grade empty 0 4 l.list)
-
-abbrev pub decreases-loop-left : goal.decreases-loop-left
-decreases-loop-left l = length l.left
+abbrev pub invariant-loop-place : goal.invariant-loop-place
+invariant-loop-place l = (length l.map ≡ 30) × (pairs_of l.grade l.map l.least (4 + 2 * l.place) (drop l.place l.pairs) ≡ list_of l.grade empty 0 4 l.list)
