@@ -1,35 +1,16 @@
 -- A table of which the first k are in use, and one more.
-use Rattle.std.proofs.Common.{◌≡◌, ℕ, ◌+◌, ◌-◌, ◌<◌, ◌≤◌, min, List, [], ◌∷◌, reverse, length, get_or, take, drop, set, Some, None, Ok, Err, sym, refl, ap, ◌∙◌, ⊎_elim, add-one, arith}
+use Rattle.std.proofs.Common.{◌≡◌, ℕ, ◌+◌, ◌-◌, ◌<◌, ◌≤◌, min, List, [], ◌∷◌, reverse, length, take, drop, set, Ok, sym, ap, ◌∙◌, ⊎_elim, add-one, arith}
 use borrow.Rule.Slice.PartMut.{put_mid}
-use Rattle.std.specs.List.{slice_get}
-use Rattle.std.proofs.lemmas.List.{length-take, length-drop, length-reverse, length-set, reverse-append, take_more_set, get_or-take, set_split, take_all, take_rest, drop_more, drop_all, append-nil, drop-set-lt, drop-drop}
-use Rattle.std.proofs.lemmas.Option.{slice_get_read, slice_get_past}
-use Rattle.std.proofs.lemmas.Bool.{cond_below, cond_above, cases_lt}
+use Rattle.std.proofs.lemmas.List.{length-take, length-drop, length-reverse, length-set, reverse-append, take_more_set, set_split, take_all, take_rest, drop_more, drop_all, append-nil, drop-set-lt, drop-drop}
+use Rattle.std.proofs.lemmas.Bool.Decides.{nat_tests}
+use Rattle.std.proofs.lemmas.Bool.{cases_lt}
 use Rattle.reference.specs.Results.{free}
 use Rattle.reference.specs.declared.refusals.Refusal.{Refusal}
 
 module _ {X : Type 0} (xs : List X) (k : ℕ) where
-  pub within : length (take k xs) < length xs → k < length xs
-  within h = omega (arith, length-take k xs)
-
-  pub long : k < length xs → k ≡ length (take k xs)
-  long h = omega (arith, length-take k xs)
-
-  pub long_back : k < length xs → k ≡ length (reverse (take k xs))
-  long_back h = omega (arith, length-take k xs, length-reverse (take k xs))
-
-  -- whether one more is free, by the length of the part in use
-  pub free_yes : (n : ℕ) (e : Refusal) → n ≡ length (take k xs) → k < length xs → free n (length xs) e ≡ Ok tt
-  free_yes n e is h = sym (cond_below n (length xs) (Ok tt) (Err e) (omega (arith, length-take k xs)))
-
-  pub free_no : (n : ℕ) (e : Refusal) → n ≡ length (take k xs) → length xs ≤ k → free n (length xs) e ≡ Err e
-  free_no n e is h = sym (cond_above n (length xs) (Ok tt) (Err e) (Err e) (omega (arith, length-take k xs)) refl)
-
-  pub at_of : (i : ℕ) (x : X) → i < k → i < length xs → x ≡ get_or xs i x → slice_get (take k xs) i ≡ Some x
-  at_of i x h l e = slice_get_read (take k xs) (length (take k xs)) i x refl (omega (arith, length-take k xs)) (e ∙ sym (get_or-take k xs i x h))
-
-  pub none_of : (i : ℕ) → length (take k xs) ≤ i → slice_get (take k xs) i ≡ None
-  none_of i h = slice_get_past (take k xs) i h
+  -- one more is free, by the lengths of the parts in use and not
+  pub place_free : (e : Refusal) → k < length xs → free (length (reverse (take k xs))) (length (reverse (take k xs)) + length (drop k xs)) e ≡ Ok tt
+  place_free e h = grind (arith, nat_tests, length-take k xs, length-drop k xs, length-reverse (take k xs))
 
 -- what is left of a table after a write to its first free place
 pub rest_more : {X : Type 0} (xs : List X) (k : ℕ) (x : X) → drop (k + 1) (set xs k x) ≡ drop 1 (drop k xs)

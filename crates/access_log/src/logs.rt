@@ -1,16 +1,28 @@
 //! The entries that were added to a lent slice of places.
-ghost use Rattle.std.specs.Prelude.{◌≡◌, ◌<◌, [], ◌∷◌, reverse, length, drop, slice_set};
-ghost use Rattle.reference.specs.Results.{free, answer, after};
-ghost use Rattle.reference.specs.declared.refusals.Refusal.TheVariants as refusal;
-ghost use Rattle.access_log.specs.Places.{history_of, blank_of, places_of};
+ghost use Rattle.std.specs.Prelude.{◌≡◌, ◌<◌, ◌≤◌, [], ◌∷◌, reverse, length, drop, slice_set};
+ghost use Rattle.reference.specs.Results.{answer, after};
+ghost use Rattle.access_log.specs.Places.{places_of, next_place};
 
 use reference::{Entry, Refusal};
+use std::marker::Model;
 
 /// A log: the first `used` of the places hold its entries, the oldest first.
 #[derive(Drop)]
 pub struct Log<'a> {
     places: &'a mut [Entry],
     used: usize,
+}
+
+impl<'a> Model for Log<'a> {
+    ghost use Rattle.access_log.specs.Places.{Places};
+
+    ghost Value = { Places };
+
+    ghost use Rattle.access_log.specs.View.{lists_of, Within};
+
+    ghost view = { lists_of };
+
+    ghost invariant = { Within };
 }
 
 fn write_first(free: &mut [Entry], entry: Entry)
@@ -23,8 +35,8 @@ fn write_first(free: &mut [Entry], entry: Entry)
 impl<'a> Log<'a> {
     /// A log with no entry, whatever the places hold.
     pub fn new(places: &'a mut [Entry]) -> Log<'a>
-        ensures history { history_of result ≡ [] }
-        ensures blank { blank_of result ≡ places.old }
+        ensures history { result.history ≡ [] }
+        ensures blank { result.blank ≡ places.old }
         ensures places { places_of result ≡ length places.old }
     {
         Log { places, used: 0 }
@@ -32,28 +44,23 @@ impl<'a> Log<'a> {
 
     /// How many entries there are.
     pub fn count(&self) -> usize
-        ensures { result ≡ length (history_of self.now) }
+        ensures { result ≡ length self.now.history }
     {
-        if self.used < self.places.len() {
-            self.used
-        } else {
-            self.places.len()
-        }
+        self.entries().len()
     }
 
     /// The entries, the oldest first.
     pub fn entries(&self) -> &[Entry]
-        ensures { reverse result.now ≡ history_of self.now }
+        ensures { reverse result.now ≡ self.now.history }
     {
-        let count = self.count();
-        &self.places[0..count]
+        &self.places[..self.used]
     }
 
     /// Adds an entry at the first free place, and says which that is. Refused where no place is free.
     pub fn append(&mut self, entry: Entry) -> Result<usize, Refusal>
-        ensures answer { result ≡ answer (λ _. length (history_of self.old)) (free (length (history_of self.old)) (places_of self.old) refusal.NoFreePlace) }
-        ensures history { history_of self.new ≡ after (λ _. entry ∷ history_of self.old) (history_of self.old) (free (length (history_of self.old)) (places_of self.old) refusal.NoFreePlace) }
-        ensures blank { blank_of self.new ≡ after (λ _. drop 1 (blank_of self.old)) (blank_of self.old) (free (length (history_of self.old)) (places_of self.old) refusal.NoFreePlace) }
+        ensures answer { result ≡ answer (λ _. length self.old.history) (next_place self.old) }
+        ensures history { self.new.history ≡ after (λ _. entry ∷ self.old.history) self.old.history (next_place self.old) }
+        ensures blank { self.new.blank ≡ after (λ _. drop 1 self.old.blank) self.old.blank (next_place self.old) }
         ensures places { places_of self.new ≡ places_of self.old }
     {
         let at = self.used;

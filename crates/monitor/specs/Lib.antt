@@ -1,2 +1,4 @@
 pub mod Rows
+pub mod Table
 pub mod View
+pub mod Viewed

@@ -1,5 +1,5 @@
 -- The session table as plain lists.
-use Rattle.std.specs.Prelude.{ℕ, List, take, drop, Ok, Err, Result}
+use Rattle.std.specs.Prelude.{ℕ, ◌+◌, List, length, Ok, Err, Result}
 use Rattle.std.specs.List.{slice_get}
 use Rattle.std.specs.Option.{ok_or}
 use Rattle.reference.specs.Results.{and_then}
@@ -8,18 +8,18 @@ use Rattle.reference.specs.declared.sessions.SessionState.TheVariants.{Open, Clo
 use Rattle.reference.specs.declared.refusals.Refusal.{Refusal}
 use Rattle.reference.specs.declared.refusals.Refusal.TheVariants as refusal
 use Rattle.monitor.specs.declared.tables.SessionRow.{SessionRow}
-use Rattle.monitor.specs.declared.tables.SessionTable.{SessionTable}
 
 abbrev pub row : {M : Type 0} → M → SessionState → SessionRow M
 row m s = record { marks = m; state = s }
 
--- the rows of the sessions, by their numbers
-abbrev pub sessions_of : {M : Type 0} → SessionTable M → List (SessionRow M)
-sessions_of t = take t.enrolled t.rows.now
+-- the rows of the sessions, by their numbers, and the rows that are not in use
+pub record Rows (M : Type 0) : Type 0 where
+  pub sessions : List (SessionRow M)
+  pub spare : List (SessionRow M)
 
--- the rows that are not in use
-abbrev pub spare_of : {M : Type 0} → SessionTable M → List (SessionRow M)
-spare_of t = drop t.enrolled t.rows.now
+-- how many rows there are
+abbrev pub row_count : {M : Type 0} → Rows M → ℕ
+row_count t = length t.sessions + length t.spare
 
 abbrev pub open_row : {M : Type 0} → SessionRow M → Result M Refusal
 open_row r = elim r.state [ Open ↦ Ok r.marks | Closed ↦ Err refusal.Closed ]

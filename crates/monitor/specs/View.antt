@@ -13,10 +13,8 @@ use Rattle.reference.specs.declared.entries.Request.{Request}
 use Rattle.reference.specs.declared.refusals.Refusal.{Refusal}
 use Rattle.reference.specs.declared.refusals.Refusal.TheVariants.{NotEnrolled, UnknownObject, NoFreeRow, NoFreePlace}
 use Rattle.reference.specs.declared.sessions.SessionState.TheVariants.{Open, Closed}
-use Rattle.access_log.specs.Places.{history_of, blank_of, places_of}
-use Rattle.monitor.specs.Rows.{row, sessions_of, spare_of, open_marks}
+use Rattle.monitor.specs.Rows.{row, open_marks}
 use Rattle.monitor.specs.declared.tables.SessionRow.{SessionRow}
-use Rattle.monitor.specs.declared.monitors.Monitor.{Monitor}
 
 -- the whole of a monitor: the objects' labels, and how many session rows and log places there are; the sessions' rows,
 -- by their numbers, and the entries, the newest first; then the rows and places that are not in use
@@ -28,17 +26,6 @@ pub record View (L M : Type 0) : Type 0 where
   pub history : List Entry
   pub spare : List (SessionRow M)
   pub blank : List Entry
-
-abbrev pub view : {P L M : Type 0} → Monitor P L M → View L M
-view m = record {
-  labels = m.objects.now;
-  rows = length m.sessions.rows.now;
-  places = places_of m.log;
-  sessions = sessions_of m.sessions;
-  history = history_of m.log;
-  spare = spare_of m.sessions;
-  blank = blank_of m.log;
-}
 
 -- no session and no entry
 abbrev pub fresh : {L M : Type 0} → List L → List (SessionRow M) → List Entry → View L M

@@ -3,12 +3,13 @@ ghost use Rattle.std.specs.Prelude.{◌≡◌, reverse};
 ghost use Rattle.std.specs.List.{slice_get};
 ghost use Rattle.std.specs.Option.{ok_or};
 ghost use Rattle.reference.specs.declared.refusals.Refusal.TheVariants as refusal;
-ghost use Rattle.monitor.specs.View.{view, made_over, judging, enrol_answer, enrol_after, request_answer, request_after, close_answer, close_after, row_answer};
+ghost use Rattle.monitor.specs.View.{made_over, judging, enrol_answer, enrol_after, request_answer, request_after, close_answer, close_after, row_answer};
 
 use crate::tables::{SessionRow, SessionTable};
 use access_log::Log;
 use policies::{Decision, Policy, Verdict};
 use reference::{Entry, Refusal, Request, SessionState};
+use std::marker::Model;
 
 const OBJECT_LIMIT: usize = 4096;
 
@@ -24,14 +25,14 @@ pub struct Monitor<'a, P: Policy> {
     log: Log<'a>,
 }
 
-// The label of an object, by its number.
-fn label_at<L: Copy>(labels: &[L], object: usize) -> Result<L, Refusal>
-    ensures { result ≡ ok_or (slice_get labels.now object) refusal.UnknownObject }
-{
-    if object < labels.len() {
-        return Ok(labels[object]);
-    }
-    Err(Refusal::UnknownObject)
+impl<'a, P: Policy> Model for Monitor<'a, P> {
+    ghost use Rattle.monitor.specs.View.{View};
+
+    ghost Value = { View P.Label P.Marks };
+
+    ghost use Rattle.monitor.specs.Viewed.{view_of};
+
+    ghost view = { view_of };
 }
 
 impl<'a, P: Policy> Monitor<'a, P> {
@@ -42,7 +43,7 @@ impl<'a, P: Policy> Monitor<'a, P> {
         rows: &'a mut [SessionRow<P::Marks>],
         places: &'a mut [Entry],
     ) -> Monitor<'a, P>
-        ensures { view result ≡ made_over objects.now rows.old places.old }
+        ensures { result ≡ made_over objects.now rows.old places.old }
     {
         let object_count = objects.len().min(OBJECT_LIMIT);
         let row_count = rows.len().min(ROW_LIMIT);
@@ -58,8 +59,8 @@ impl<'a, P: Policy> Monitor<'a, P> {
 
     /// Starts the next session, and says its number.
     pub fn enrol(&mut self, clearance: P::Label, start: P::Label) -> Result<usize, Refusal>
-        ensures answer { result ≡ enrol_answer P.model (view self.old) clearance start }
-        ensures after { view self.new ≡ enrol_after P.model (view self.old) clearance start }
+        ensures answer { result ≡ enrol_answer P.model self.old clearance start }
+        ensures after { self.new ≡ enrol_after P.model self.old clearance start }
     {
         self.sessions.check_free()?;
         let marks = P::start(clearance, start)?;
@@ -68,17 +69,20 @@ impl<'a, P: Policy> Monitor<'a, P> {
 
     // What the policy decides on a request.
     fn judge(&self, request: Request) -> Result<Decision<P::Marks>, Refusal>
-        ensures { result ≡ judging P.model (view self.now) request }
+        ensures { result ≡ judging P.model self.now request }
     {
         let marks = self.sessions.open_marks(request.session)?;
-        let label = label_at(self.objects, request.object)?;
-        Ok(P::decide(marks, label, request.kind)?)
+        let label = self
+            .objects
+            .get(request.object)
+            .ok_or(Refusal::UnknownObject)?;
+        Ok(P::decide(marks, *label, request.kind)?)
     }
 
     /// Decides a request and logs the verdict; says the verdict and its place in the log.
     pub fn request(&mut self, request: Request) -> Result<(Verdict, usize), Refusal>
-        ensures answer { result ≡ request_answer P.model (view self.old) request }
-        ensures after { view self.new ≡ request_after P.model (view self.old) request }
+        ensures answer { result ≡ request_answer P.model self.old request }
+        ensures after { self.new ≡ request_after P.model self.old request }
     {
         let decision = self.judge(request)?;
         let verdict = decision.verdict;
@@ -90,8 +94,8 @@ impl<'a, P: Policy> Monitor<'a, P> {
 
     /// Ends a session. Its marks stay readable.
     pub fn close(&mut self, session: usize) -> Result<(), Refusal>
-        ensures answer { result ≡ close_answer P.model (view self.old) session }
-        ensures after { view self.new ≡ close_after P.model (view self.old) session }
+        ensures answer { result ≡ close_answer P.model self.old session }
+        ensures after { self.new ≡ close_after P.model self.old session }
     {
         let marks = self.sessions.open_marks(session)?;
         self.sessions.put(session, marks, SessionState::Closed);
@@ -100,7 +104,7 @@ impl<'a, P: Policy> Monitor<'a, P> {
 
     /// The marks of a session, open or closed.
     pub fn row(&self, session: usize) -> Result<P::Marks, Refusal>
-        ensures { result ≡ row_answer P.model (view self.now) session }
+        ensures { result ≡ row_answer P.model self.now session }
     {
         let found = self.sessions.row(session)?;
         Ok(found.marks)
@@ -108,7 +112,7 @@ impl<'a, P: Policy> Monitor<'a, P> {
 
     /// The entries of the log, the oldest first.
     pub fn entries(&self) -> &[Entry]
-        ensures { reverse result.now ≡ (view self.now).history }
+        ensures { reverse result.now ≡ self.now.history }
     {
         self.log.entries()
     }

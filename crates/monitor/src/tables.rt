@@ -5,9 +5,10 @@ ghost use Rattle.std.specs.Option.{ok_or};
 ghost use Rattle.reference.specs.Results.{free};
 ghost use Rattle.reference.specs.declared.sessions.SessionState.TheVariants as state;
 ghost use Rattle.reference.specs.declared.refusals.Refusal.TheVariants as refusal;
-ghost use Rattle.monitor.specs.Rows.{row, sessions_of, spare_of, open_marks};
+ghost use Rattle.monitor.specs.Rows.{row, row_count, open_marks};
 
 use reference::{Refusal, SessionState};
+use std::marker::Model;
 
 /// The record of one session.
 #[derive(Clone, Copy)]
@@ -23,16 +24,16 @@ pub struct SessionTable<'a, M> {
     enrolled: usize,
 }
 
-// The row of a session, where the first `enrolled` rows are in use.
-fn row_at<M: Copy>(rows: &[SessionRow<M>], enrolled: usize, session: usize) -> Option<SessionRow<M>>
-    ensures { result ≡ slice_get (take enrolled rows.now) session }
-{
-    if session < enrolled {
-        if session < rows.len() {
-            return Some(rows[session]);
-        }
-    }
-    None
+impl<'a, M> Model for SessionTable<'a, M> {
+    ghost use Rattle.monitor.specs.Rows.{Rows};
+
+    ghost Value = { Rows M };
+
+    ghost use Rattle.monitor.specs.Table.{rows_of, Within};
+
+    ghost view = { rows_of };
+
+    ghost invariant = { Within };
 }
 
 fn put_row<M: Copy>(rows: &mut [SessionRow<M>], at: usize, row: SessionRow<M>)
@@ -45,23 +46,26 @@ fn put_row<M: Copy>(rows: &mut [SessionRow<M>], at: usize, row: SessionRow<M>)
 impl<'a, M: Copy> SessionTable<'a, M> {
     /// A table with no session, whatever the rows hold.
     pub(crate) fn new(rows: &'a mut [SessionRow<M>]) -> SessionTable<'a, M>
-        ensures sessions { sessions_of result ≡ [] }
-        ensures spare { spare_of result ≡ rows.old }
-        ensures rows { length result.rows.now ≡ length rows.old }
+        ensures sessions { result.sessions ≡ [] }
+        ensures spare { result.spare ≡ rows.old }
+        ensures rows { row_count result ≡ length rows.old }
     {
         SessionTable { rows, enrolled: 0 }
     }
 
     /// The row of an enrolled session.
     pub(crate) fn row(&self, session: usize) -> Result<SessionRow<M>, Refusal>
-        ensures { result ≡ ok_or (slice_get (sessions_of self.now) session) refusal.NotEnrolled }
+        ensures { result ≡ ok_or (slice_get self.now.sessions session) refusal.NotEnrolled }
     {
-        row_at(self.rows, self.enrolled, session).ok_or(Refusal::NotEnrolled)
+        self.rows[..self.enrolled]
+            .get(session)
+            .copied()
+            .ok_or(Refusal::NotEnrolled)
     }
 
     /// The marks of an open session.
     pub(crate) fn open_marks(&self, session: usize) -> Result<M, Refusal>
-        ensures { result ≡ open_marks (sessions_of self.now) session }
+        ensures { result ≡ open_marks self.now.sessions session }
     {
         let found = self.row(session)?;
         match found.state {
@@ -72,7 +76,7 @@ impl<'a, M: Copy> SessionTable<'a, M> {
 
     /// Whether there is a row for one more session.
     pub(crate) fn check_free(&self) -> Result<(), Refusal>
-        ensures { result ≡ free (length (sessions_of self.now)) (length self.now.rows.now) refusal.NoFreeRow }
+        ensures { result ≡ free (length self.now.sessions) (row_count self.now) refusal.NoFreeRow }
     {
         if self.enrolled < self.rows.len() {
             Ok(())
@@ -83,11 +87,11 @@ impl<'a, M: Copy> SessionTable<'a, M> {
 
     /// Starts the next session with these marks, and says its number.
     pub(crate) fn add(&mut self, marks: M) -> usize
-        requires { length (sessions_of self.old) < length self.old.rows.now }
-        ensures number { result ≡ length (sessions_of self.old) }
-        ensures sessions { sessions_of self.new ≡ sessions_of self.old ++ row marks state.Open ∷ [] }
-        ensures spare { spare_of self.new ≡ drop 1 (spare_of self.old) }
-        ensures rows { length self.new.rows.now ≡ length self.old.rows.now }
+        requires { length self.old.sessions < row_count self.old }
+        ensures number { result ≡ length self.old.sessions }
+        ensures sessions { self.new.sessions ≡ self.old.sessions ++ row marks state.Open ∷ [] }
+        ensures spare { self.new.spare ≡ drop 1 self.old.spare }
+        ensures rows { row_count self.new ≡ row_count self.old }
     {
         let at = self.enrolled;
         let started = SessionRow {
@@ -101,10 +105,10 @@ impl<'a, M: Copy> SessionTable<'a, M> {
 
     /// Writes the row of an enrolled session, whole.
     pub(crate) fn put(&mut self, session: usize, marks: M, state: SessionState)
-        requires { session < length (sessions_of self.old) }
-        ensures sessions { sessions_of self.new ≡ slice_set (sessions_of self.old) session (row marks state) }
-        ensures spare { spare_of self.new ≡ spare_of self.old }
-        ensures rows { length self.new.rows.now ≡ length self.old.rows.now }
+        requires { session < length self.old.sessions }
+        ensures sessions { self.new.sessions ≡ slice_set self.old.sessions session (row marks state) }
+        ensures spare { self.new.spare ≡ self.old.spare }
+        ensures rows { row_count self.new ≡ row_count self.old }
     {
         put_row(self.rows, session, SessionRow { marks, state });
     }

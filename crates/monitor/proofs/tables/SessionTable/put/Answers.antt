@@ -1,14 +1,11 @@
-use Rattle.std.proofs.Common.{◌<◌, arith}
+use lib.Seq.{take-set-lt}
+use Rattle.std.proofs.Common.{◌<◌, arith, length, take}
 use Rattle.std.proofs.lemmas.List.{length-take}
-use Rattle.monitor.specs.Rows.{row}
-use Rattle.monitor.proofs.Views.{put_rows}
 use Rattle.monitor.proofs.tables.SessionTable.put.Goals as goal
 
-pub put_row-requires : goal.put_row-requires
-put_row-requires g c = omega (arith, c.requires, length-take c.args.self.now.enrolled c.args.self.now.rows.now)
-
-pub returns : goal.returns
-returns g c =
-    let h : c.args.session < c.args.self.now.enrolled = omega (arith, c.requires, length-take c.args.self.now.enrolled c.args.self.now.rows.now) in
-    let p = put_rows c.args.self.now.rows.now c.put_row.new.rows c.args.self.now.enrolled c.args.session (row c.args.marks c.args.state) h c.put_row.ensures in
-    record { sessions = p.0; spare = p.1; rows = p.2 }
+pub returns-clause-sessions : goal.returns-clause-sessions
+returns-clause-sessions g c =
+    let rows = c.self.inside.rows.now in
+    let enrolled = c.self.inside.enrolled in
+    let within : c.args.session < length (take enrolled rows) = rw (← c.self.view_is) at c.requires in
+    rw (← c.self.view_is, c.put_row.ensures) (take-set-lt enrolled rows c.args.session _ (omega (arith, within, length-take enrolled rows)))
