@@ -16,12 +16,12 @@ fn grades_are_gathered(rt: HostRuntime) {
 #[test]
 fn rivals_are_gathered(rt: HostRuntime) -> Result<(), Fail> {
     let labels = [
-        RivalLabel::from_classes([4, 0, 0, 0, 0, 0, 0, 0])?,
-        RivalLabel::from_classes([7, 0, 0, 0, 0, 0, 0, 9])?,
+        RivalLabel::try_from([4, 0, 0, 0, 0, 0, 0, 0])?,
+        RivalLabel::try_from([7, 0, 0, 0, 0, 0, 0, 9])?,
     ];
     assert_eq!(rt; gather(&labels[0..0]), <RivalLabel as LabelOrder>::low());
     assert_eq!(rt; gather(&labels[1..2]), labels[1]);
-    let both = RivalLabel::from_classes([251, 0, 0, 0, 0, 0, 0, 9])?;
+    let both = RivalLabel::try_from([251, 0, 0, 0, 0, 0, 0, 9])?;
     assert_eq!(rt; gather(&labels), both);
     Ok(())
 }

@@ -15,15 +15,7 @@ fn plain(grade: u8) -> GradeLabel {
 
 // The objects have the plain grades 0 to 6, by their numbers.
 fn grades() -> [GradeLabel; 7] {
-    [
-        plain(0),
-        plain(1),
-        plain(2),
-        plain(3),
-        plain(4),
-        plain(5),
-        plain(6),
-    ]
+    [0, 1, 2, 3, 4, 5, 6].map(plain)
 }
 
 #[test]

@@ -11,7 +11,7 @@ use std::test::Fail;
 // A broker's figures of a grade; broker 0 is none.
 fn figures(broker: u8, grade: u8) -> Result<Pair<RivalLabel, GradeLabel>, UnknownBroker> {
     Ok(Pair {
-        first: RivalLabel::from_classes([broker, 0, 0, 0, 0, 0, 0, 0])?,
+        first: RivalLabel::try_from([broker, 0, 0, 0, 0, 0, 0, 0])?,
         second: GradeLabel::from_map(grade, &[]),
     })
 }

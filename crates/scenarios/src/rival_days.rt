@@ -9,23 +9,23 @@ use std::test::Fail;
 
 // A broker of the first class and one of the second; 0 is none.
 fn brokers(class0: u8, class1: u8) -> Result<RivalLabel, UnknownBroker> {
-    RivalLabel::from_classes([class0, class1, 0, 0, 0, 0, 0, 0])
+    RivalLabel::try_from([class0, class1, 0, 0, 0, 0, 0, 0])
 }
 
 #[test]
 fn brokers_are_known_up_to_conflict(rt: HostRuntime) {
     let refused = Err(UnknownBroker { class: 2 });
     assert_eq!(rt;
-        RivalLabel::from_classes([0, 251, 252, 255, 0, 0, 0, 0]),
+        RivalLabel::try_from([0, 251, 252, 255, 0, 0, 0, 0]),
         refused
     );
     assert_eq!(rt; UnknownBroker { class: 2 }.number(), 12);
     assert_eq!(rt;
-        RivalLabel::from_classes([251; 8]),
+        RivalLabel::try_from([251; 8]),
         Ok(<RivalLabel as LabelOrder>::high())
     );
     assert_eq!(rt;
-        RivalLabel::from_classes([0; 8]),
+        RivalLabel::try_from([0; 8]),
         Ok(<RivalLabel as LabelOrder>::low())
     );
 }
