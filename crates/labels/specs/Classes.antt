@@ -12,13 +12,17 @@ conflict = 251
 unfoldable pub class_dominance : ℕ → ℕ → Bool
 class_dominance a b = a == conflict || b == none || a == b
 
+-- the other number where one is neutral, and the extreme where two others differ
+abbrev pub class_bound : ℕ → ℕ → ℕ → ℕ → ℕ
+class_bound neutral extreme a b = cond (a == neutral) b (cond (b == neutral) a (cond (a == b) a extreme))
+
 -- none adds nothing to the other, and two brokers are in conflict
 abbrev pub class_join : ℕ → ℕ → ℕ
-class_join a b = cond (a == none) b (cond (b == none) a (cond (a == b) a conflict))
+class_join = class_bound none conflict
 
 -- what is below conflict is below the other, and two brokers have only none below both
 abbrev pub class_meet : ℕ → ℕ → ℕ
-class_meet a b = cond (a == conflict) b (cond (b == conflict) a (cond (a == b) a none))
+class_meet = class_bound conflict none
 
 abbrev pub class_order : Order ℕ
 class_order = record { proper = λ n. n < 2 ^ 8; dominance = class_dominance; join = class_join; meet = class_meet; low = none; high = conflict }

@@ -1,6 +1,6 @@
 //! The rival order: in each of eight classes of rivals no broker, one broker, or conflict.
 ghost use Rattle.std.specs.Prelude.{◌≡◌};
-ghost use Rattle.labels.specs.Classes.{class_dominance, class_join, class_meet};
+ghost use Rattle.labels.specs.Classes.{class_dominance, class_bound};
 ghost use Rattle.labels.specs.Rival.{rival_order, unknown_class, with_classes, rival_of, ByClass};
 ghost use Rattle.labels.specs.RivalLattice.{rivals};
 
@@ -104,23 +104,16 @@ fn class_dominates(a: u8, b: u8) -> bool
     (a == CONFLICT) | (b == NONE) | (a == b)
 }
 
-fn join_classes(a: u8, b: u8) -> u8
-    ensures { result ≡ class_join a b }
+// The bound of two numbers of a class: the other where one is neutral, and the extreme where two others differ.
+fn class_bound(neutral: u8, extreme: u8, a: u8, b: u8) -> u8
+    ensures { result ≡ class_bound neutral extreme a b }
 {
-    match (a, b) {
-        (NONE, other) | (other, NONE) => other,
-        _ if a == b => a,
-        _ => CONFLICT,
-    }
-}
-
-fn meet_classes(a: u8, b: u8) -> u8
-    ensures { result ≡ class_meet a b }
-{
-    match (a, b) {
-        (CONFLICT, other) | (other, CONFLICT) => other,
-        _ if a == b => a,
-        _ => NONE,
+    if a == neutral {
+        b
+    } else if b == neutral || a == b {
+        a
+    } else {
+        extreme
     }
 }
 
@@ -141,11 +134,11 @@ impl LabelOrder for RivalLabel {
     }
 
     fn join(self, other: RivalLabel) -> RivalLabel {
-        self.by_class(other, join_classes)
+        self.by_class(other, |a, b| class_bound(NONE, CONFLICT, a, b))
     }
 
     fn meet(self, other: RivalLabel) -> RivalLabel {
-        self.by_class(other, meet_classes)
+        self.by_class(other, |a, b| class_bound(CONFLICT, NONE, a, b))
     }
 
     fn low() -> RivalLabel {

@@ -11,6 +11,26 @@ pub struct Pair<A, B> {
     pub second: B,
 }
 
+impl<A, B> Pair<A, B> {
+    // The pair made of two, part by part.
+    fn by_part<F: FnOnce(A, A) -> A, G: FnOnce(B, B) -> B>(
+        self,
+        other: Pair<A, B>,
+        first: F,
+        second: G,
+    ) -> Pair<A, B>
+        requires first { F.IsAlwaysCallable first }
+        requires second { G.IsAlwaysCallable second }
+        ensures first { F.post first self.first other.first result.first }
+        ensures second { G.post second self.second other.second result.second }
+    {
+        Pair {
+            first: first(self.first, other.first),
+            second: second(self.second, other.second),
+        }
+    }
+}
+
 impl<A: LabelOrder, B: LabelOrder> LabelOrder for Pair<A, B> {
     ghost order = { pair_order A.LabelOrder.order B.LabelOrder.order };
 
@@ -21,17 +41,11 @@ impl<A: LabelOrder, B: LabelOrder> LabelOrder for Pair<A, B> {
     }
 
     fn join(self, other: Pair<A, B>) -> Pair<A, B> {
-        Pair {
-            first: self.first.join(other.first),
-            second: self.second.join(other.second),
-        }
+        self.by_part(other, A::join, B::join)
     }
 
     fn meet(self, other: Pair<A, B>) -> Pair<A, B> {
-        Pair {
-            first: self.first.meet(other.first),
-            second: self.second.meet(other.second),
-        }
+        self.by_part(other, A::meet, B::meet)
     }
 
     fn low() -> Pair<A, B> {

@@ -6,6 +6,17 @@ use Rattle.rules.specs.Range.{range_model}
 use Rattle.rules.specs.declared.marks.SixLabels.{SixLabels}
 use Rattle.rules.specs.declared.ranges.LabelRange.{LabelRange}
 
+-- the labels of a session that starts, by those that its reads move and those that its writes move
+abbrev pub started : {L : Type 0} → LabelRange L → L → L → SixLabels L
+started w read written = record {
+  clearance = w.clearance;
+  current = w.current;
+  in_low = read;
+  in_high = read;
+  out_low = written;
+  out_high = written;
+}
+
 -- secrecy: the ceiling is out-low, and the floor in-high
 abbrev pub secrecy_range : {L : Type 0} → SixLabels L → LabelRange L
 secrecy_range m = record { clearance = m.clearance; current = m.current; ceiling = m.out_low; floor = m.in_high }
@@ -22,14 +33,7 @@ secrecy_marks m w = record {
 
 -- in-low = in-high = LOW, out-low = out-high = HIGH
 abbrev pub secrecy_begin : {L : Type 0} → LabelRange L → SixLabels L
-secrecy_begin w = record {
-  clearance = w.clearance;
-  current = w.current;
-  in_low = w.floor;
-  in_high = w.floor;
-  out_low = w.ceiling;
-  out_high = w.ceiling;
-}
+secrecy_begin w = started w w.floor w.ceiling
 
 -- integrity: the ceiling is in-low, and the floor out-high
 abbrev pub integrity_range : {L : Type 0} → SixLabels L → LabelRange L
@@ -47,14 +51,7 @@ integrity_marks m w = record {
 
 -- in-low = in-high = HIGH, out-low = out-high = LOW
 abbrev pub integrity_begin : {L : Type 0} → LabelRange L → SixLabels L
-integrity_begin w = record {
-  clearance = w.clearance;
-  current = w.current;
-  in_low = w.ceiling;
-  in_high = w.ceiling;
-  out_low = w.floor;
-  out_high = w.floor;
-}
+integrity_begin w = started w w.ceiling w.floor
 
 abbrev pub secrecy_model : {L : Type 0} → Order L → Model L (SixLabels L)
 secrecy_model order = kept_model (range_model order) secrecy_range secrecy_marks secrecy_begin

@@ -36,14 +36,7 @@ impl<O: LabelOrder> Policy for Integrity<O> {
 
     fn start(clearance: O, label: O) -> Result<SixLabels<O>, StartRefusal> {
         let range = LabelRange::start(clearance, label)?;
-        Ok(SixLabels {
-            clearance: range.clearance,
-            current: range.current,
-            in_low: range.ceiling,
-            in_high: range.ceiling,
-            out_low: range.floor,
-            out_high: range.floor,
-        })
+        Ok(SixLabels::start(range, range.ceiling, range.floor))
     }
 
     fn decide(
@@ -64,9 +57,8 @@ impl<O: LabelOrder> Policy for Integrity<O> {
                 clearance: next.marks.clearance,
                 current: next.marks.current,
                 in_low: next.marks.ceiling,
-                in_high: marks.in_high,
-                out_low: marks.out_low,
                 out_high: next.marks.floor,
+                ..marks
             },
         })
     }

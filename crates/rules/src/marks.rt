@@ -1,4 +1,8 @@
 //! The marks of secrecy and integrity.
+ghost use Rattle.std.specs.Prelude.{◌≡◌};
+ghost use Rattle.rules.specs.SixLabels.{started};
+
+use crate::ranges::LabelRange;
 
 /// The six labels of a session.
 ///
@@ -13,4 +17,20 @@ pub struct SixLabels<L> {
     pub in_high: L,
     pub out_low: L,
     pub out_high: L,
+}
+
+impl<L: Copy> SixLabels<L> {
+    // The labels of a session that starts, by those that its reads move and those that its writes move.
+    pub(crate) fn start(range: LabelRange<L>, read: L, written: L) -> SixLabels<L>
+        ensures { result ≡ started range read written }
+    {
+        SixLabels {
+            clearance: range.clearance,
+            current: range.current,
+            in_low: read,
+            in_high: read,
+            out_low: written,
+            out_high: written,
+        }
+    }
 }

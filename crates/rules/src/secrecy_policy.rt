@@ -36,14 +36,7 @@ impl<O: LabelOrder> Policy for Secrecy<O> {
 
     fn start(clearance: O, label: O) -> Result<SixLabels<O>, StartRefusal> {
         let range = LabelRange::start(clearance, label)?;
-        Ok(SixLabels {
-            clearance: range.clearance,
-            current: range.current,
-            in_low: range.floor,
-            in_high: range.floor,
-            out_low: range.ceiling,
-            out_high: range.ceiling,
-        })
+        Ok(SixLabels::start(range, range.floor, range.ceiling))
     }
 
     fn decide(
@@ -63,10 +56,9 @@ impl<O: LabelOrder> Policy for Secrecy<O> {
             marks: SixLabels {
                 clearance: next.marks.clearance,
                 current: next.marks.current,
-                in_low: marks.in_low,
                 in_high: next.marks.floor,
                 out_low: next.marks.ceiling,
-                out_high: marks.out_high,
+                ..marks
             },
         })
     }
