@@ -31,9 +31,6 @@ module _ {X : Type 0} (xs ys : List X) (k : ℕ) (x : X) (h : k < length xs) (e 
   pub rest_written : drop (k + 1) (put_mid k (length xs - k) xs ys) ≡ drop 1 (drop k xs)
   rest_written = ap (λ (l : List X). drop (k + 1) l) written ∙ rest_more xs k x
 
-  pub length_written : length (put_mid k (length xs - k) xs ys) ≡ length xs
-  length_written = ap length written ∙ length-set xs k x
-
 -- the part up to the table's end, or up to a limit
 pub take_at_most : {X : Type 0} (n m : ℕ) (xs : List X) → n ≡ min (length xs) m → take n xs ≡ take m xs
 take_at_most n m xs e =

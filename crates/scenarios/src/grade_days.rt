@@ -65,7 +65,7 @@ fn secrecy_by_categories(rt: HostRuntime) -> Result<(), Fail> {
     let mut places = [BLANK; 8];
     let mut day = Monitor::<Secrecy<GradeLabel>>::new(&objects, &mut rows, &mut places);
     let both = GradeLabel::from_map(2, &[0x80, 0x40]);
-    assert_eq!(rt; day.enrol(both, <GradeLabel as LabelOrder>::low())?, 0);
+    assert_eq!(rt; day.enrol(both, GradeLabel::low())?, 0);
     gives(&rt, &mut day, ask(0, Kind::Read, 0), Verdict::Granted)?;
     gives(&rt, &mut day, ask(0, Kind::Write, 1), Verdict::History)
 }
@@ -119,7 +119,7 @@ fn a_full_log_leaves_the_marks(rt: HostRuntime) -> Result<(), Fail> {
         day.request(ask(0, Kind::Write, 3)),
         Err(Refusal::NoFreePlace)
     );
-    assert_eq!(rt; day.row(0)?.out_low, <GradeLabel as LabelOrder>::high());
+    assert_eq!(rt; day.row(0)?.out_low, GradeLabel::high());
     assert_eq!(rt; day.entries().len(), 1);
     Ok(())
 }

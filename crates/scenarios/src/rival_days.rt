@@ -20,14 +20,8 @@ fn brokers_are_known_up_to_conflict(rt: HostRuntime) {
         refused
     );
     assert_eq!(rt; UnknownBroker { class: 2 }.number(), 12);
-    assert_eq!(rt;
-        RivalLabel::try_from([251; 8]),
-        Ok(<RivalLabel as LabelOrder>::high())
-    );
-    assert_eq!(rt;
-        RivalLabel::try_from([0; 8]),
-        Ok(<RivalLabel as LabelOrder>::low())
-    );
+    assert_eq!(rt; RivalLabel::try_from([251; 8]), Ok(RivalLabel::high()));
+    assert_eq!(rt; RivalLabel::try_from([0; 8]), Ok(RivalLabel::low()));
 }
 
 #[test]
@@ -41,24 +35,12 @@ fn rivals_of_one_class_and_of_two(rt: HostRuntime) -> Result<(), Fail> {
     let mut rows = [blank_row(); 2];
     let mut places = [BLANK; 8];
     let mut day = Monitor::<Secrecy<RivalLabel>>::new(&objects, &mut rows, &mut places);
-    assert_eq!(rt;
-        day.enrol(
-            <RivalLabel as LabelOrder>::high(),
-            <RivalLabel as LabelOrder>::low()
-        )?,
-        0
-    );
+    assert_eq!(rt; day.enrol(RivalLabel::high(), RivalLabel::low())?, 0);
     gives(&rt, &mut day, ask(0, Kind::Read, 0), Verdict::Granted)?;
     gives(&rt, &mut day, ask(0, Kind::Read, 1), Verdict::Granted)?;
     gives(&rt, &mut day, ask(0, Kind::Write, 0), Verdict::History)?;
     assert_eq!(rt; day.row(0)?.in_high, brokers(251, 0)?);
-    assert_eq!(rt;
-        day.enrol(
-            <RivalLabel as LabelOrder>::high(),
-            <RivalLabel as LabelOrder>::low()
-        )?,
-        1
-    );
+    assert_eq!(rt; day.enrol(RivalLabel::high(), RivalLabel::low())?, 1);
     gives(&rt, &mut day, ask(1, Kind::Read, 0), Verdict::Granted)?;
     gives(&rt, &mut day, ask(1, Kind::Read, 2), Verdict::Granted)?;
     gives(&rt, &mut day, ask(1, Kind::Write, 3), Verdict::Granted)
@@ -69,7 +51,7 @@ fn pairs_of_grades_and_rivals(rt: HostRuntime) -> Result<(), Fail> {
     let secret = GradeLabel::from_map(2, &[]);
     let objects = [
         Pair {
-            first: <GradeLabel as LabelOrder>::low(),
+            first: GradeLabel::low(),
             second: brokers(4, 0)?,
         },
         Pair {
@@ -78,7 +60,7 @@ fn pairs_of_grades_and_rivals(rt: HostRuntime) -> Result<(), Fail> {
         },
         Pair {
             first: secret,
-            second: <RivalLabel as LabelOrder>::high(),
+            second: RivalLabel::high(),
         },
     ];
     let mut rows = [blank_row(); 1];
@@ -92,7 +74,7 @@ fn pairs_of_grades_and_rivals(rt: HostRuntime) -> Result<(), Fail> {
         first: secret,
         second: brokers(251, 0)?,
     };
-    assert_eq!(rt; day.enrol(clearance, <Pair<_, _> as LabelOrder>::low())?, 0);
+    assert_eq!(rt; day.enrol(clearance, Pair::low())?, 0);
     gives(&rt, &mut day, ask(0, Kind::Read, 0), Verdict::Granted)?;
     gives(&rt, &mut day, ask(0, Kind::Read, 2), Verdict::Clearance)?;
     gives(&rt, &mut day, ask(0, Kind::Write, 1), Verdict::History)?;

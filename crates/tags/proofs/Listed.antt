@@ -1,6 +1,7 @@
 -- The categories of a list that is read.
-use Rattle.std.proofs.Common.{◌≡◌, ℕ, ◌+◌, ◌*◌, ◌/◌, ◌%◌, ◌^◌, ◌<◌, Bool, true, false, cond, ◌||◌, eqb, ltb, List, [], ◌∷◌, length, get_or, Ok, Result, refl, ap, ◌∙◌, inl, inr, arith, length-set}
+use Rattle.std.proofs.Common.{◌≡◌, ℕ, ◌+◌, ◌*◌, ◌/◌, ◌%◌, ◌^◌, ◌<◌, Bool, true, false, cond, ◌||◌, eqb, ltb, List, [], ◌∷◌, length, get_or, Ok, Result, refl, sym, ap, ◌∙◌, inl, inr, arith, length-set}
 use lib.Bits.{bit_or}
+use Rattle.std.proofs.Math.Bool.{or_assoc, or_comm, or-false}
 use Rattle.std.proofs.lemmas.List.{get_or-set_same, get_or-set_other, get_or_past, set_past, get_or-replicate}
 use Rattle.std.proofs.lemmas.Nat.{or_lt, shr_le}
 use Rattle.std.proofs.lemmas.Bool.{cases_eq, cases_lt}
@@ -28,16 +29,6 @@ marked_octets m c h k =
       | inr d ↦ rw (get_or-set_other m (c / 8) k (bit_or (get_or m (c / 8) 0) (128 / 2 ^ (c % 8))) 0 d) (h k)
     ]
 
-or_assoc : (x y z : Bool) → ((x || y) || z) ≡ (y || (x || z))
-or_assoc true true z = refl
-or_assoc true false z = refl
-or_assoc false true z = refl
-or_assoc false false z = refl
-
-or_none : (x : Bool) → x ≡ (x || false)
-or_none true = refl
-or_none false = refl
-
 went_on : (b : Bool) (at : ℕ) (r : Result GradeLabel TagFault) (l : GradeLabel) → cond b (fault at) r ≡ Ok l → (b ≡ false) × (r ≡ Ok l)
 went_on true at r l e = let z : ◌≡◌ {A = ℕ} 0 1 = cc in absurd (omega arith)
 went_on false at r l e = (refl, e)
@@ -46,7 +37,7 @@ ended : (g : ℕ) (m : List ℕ) (l : GradeLabel) → ((k : ℕ) → get_or m k 
     → (l.grade ≡ g) × ((n : ℕ) → n < 240 → has l n ≡ (in_map m n || false))
 ended g m l h e =
     let same : label_of g m ≡ l = cc in
-    rw (← same) (refl, λ n hn. has_label_of g m h n hn ∙ or_none (in_map m n))
+    rw (← same) (refl, λ n hn. has_label_of g m h n hn ∙ sym (or-false (in_map m n)))
 
 reads : (g : ℕ) (m : List ℕ) (least at : ℕ) (xs : List ℕ) (l : GradeLabel) → length m ≡ 30 → ((k : ℕ) → get_or m k 0 < 256)
     → list_of g m least at xs ≡ Ok l → (l.grade ≡ g) × ((n : ℕ) → n < 240 → has l n ≡ (in_map m n || listed xs n))
@@ -58,7 +49,8 @@ reads g m least at (a ∷ (b ∷ xs)) l long h e =
     let rest = reads g (marked m (a * 256 + b)) (a * 256 + b + 1) (at + 2) xs l (length-set m _ _ ∙ long) (marked_octets m (a * 256 + b) h) on.1 in (
       rest.0,
       λ n hn. rest.1 n hn ∙ ap (λ (x : Bool). x || listed xs n) (in_map_marked m (a * 256 + b) n long small hn)
-          ∙ or_assoc (eqb n (a * 256 + b)) (in_map m n) (listed xs n),
+          ∙ ap (λ (x : Bool). x || listed xs n) (or_comm (eqb n (a * 256 + b)) (in_map m n))
+          ∙ or_assoc (in_map m n) (eqb n (a * 256 + b)) (listed xs n),
     )
 
 pub empty_octets : (k : ℕ) → get_or empty k 0 ≡ 0
