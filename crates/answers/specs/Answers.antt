@@ -39,6 +39,13 @@ number_of (Ok (Decided v n)) = n
 number_of (Ok (Closed n)) = n
 number_of (Err refusal) = refusal_number refusal
 
+-- a word and a number, as an answer and a refusal print
+abbrev pub answer_text : Answer → List ℕ
+answer_text answer = word_of (Ok answer) ++ (codes "," ++ decimal (number_of (Ok answer)))
+
+abbrev pub refusal_text : BatchRefusal → List ℕ
+refusal_text refusal = codes "refused," ++ decimal (refusal_number refusal)
+
 -- the record's place, a word and a number, and CR LF
 unfoldable pub output_of : ℕ → Outcome → List ℕ
 output_of place outcome = decimal place ++ (codes "," ++ (word_of outcome ++ (codes "," ++ (decimal (number_of outcome) ++ codes "\r\n"))))

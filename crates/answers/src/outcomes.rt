@@ -1,13 +1,14 @@
 //! What a record of a batch comes to, and the record that says so.
-ghost use Rattle.std.specs.Prelude.{◌≡◌, ◌++◌, IfOk, string_bytes, OnOk};
+ghost use Rattle.std.specs.Prelude.{◌≡◌, ◌++◌, Some, OnOk};
 ghost use Rattle.faults.specs.declared.layers.RecordCause.TheVariants.{Field};
-ghost use Rattle.answers.specs.Answers.{refusal_number, word_of, number_of, output_of};
+ghost use Rattle.answers.specs.Answers.{refusal_number, verdict_word, answer_text, refusal_text, output_of};
 ghost use Rattle.answers.specs.declared.outcomes.BatchRefusal.TheVariants as refused;
 
 use faults::{FieldFault, RecordCause};
 use policies::Verdict;
 use reference::Refusal;
 use std::alloc::{AllocError, Global};
+use std::fmt;
 
 /// What an accepted record did.
 #[derive(Clone, Copy)]
@@ -79,48 +80,48 @@ impl BatchRefusal {
     }
 }
 
-fn word(outcome: Result<Answer, BatchRefusal>) -> &'static str
-    ensures { result.now ≡ word_of outcome }
+// The word for what a policy decided.
+fn verdict_word(verdict: Verdict) -> &'static str
+    ensures { result.now ≡ verdict_word verdict }
 {
-    match outcome {
-        Ok(Answer::Policy) => "policy",
-        Ok(Answer::Object(_)) => "object",
-        Ok(Answer::Session(_)) => "session",
-        Ok(Answer::Decided(Verdict::Granted, _)) => "granted",
-        Ok(Answer::Decided(Verdict::Clearance, _)) => "clearance",
-        Ok(Answer::Decided(Verdict::History, _)) => "history",
-        Ok(Answer::Closed(_)) => "closed",
-        Err(_) => "refused",
+    match verdict {
+        Verdict::Granted => "granted",
+        Verdict::Clearance => "clearance",
+        Verdict::History => "history",
     }
 }
 
-fn number(outcome: Result<Answer, BatchRefusal>) -> usize
-    ensures { result ≡ number_of outcome }
-{
-    match outcome {
-        Ok(Answer::Policy) => 0,
-        Ok(Answer::Object(number)) => number,
-        Ok(Answer::Session(number)) => number,
-        Ok(Answer::Decided(_, number)) => number,
-        Ok(Answer::Closed(number)) => number,
-        Err(refusal) => usize::from(refusal.number()),
+/// A word and a number, as `granted,3`.
+impl fmt::Display for Answer {
+    ghost output = { λ answer. Some (answer_text answer) };
+
+    #[tactic(auto, using(std::proofs::lemmas::Fmt::decimal_digit))]
+    fn fmt<W: fmt::Write>(&self, f: &mut fmt::Formatter<W>) -> fmt::Result {
+        match self {
+            Answer::Policy => write!(f, "policy,0"),
+            Answer::Object(number) => write!(f, "object,{number}"),
+            Answer::Session(number) => write!(f, "session,{number}"),
+            Answer::Decided(verdict, number) => {
+                let word = verdict_word(*verdict);
+                write!(f, "{word},{number}")
+            }
+            Answer::Closed(number) => write!(f, "closed,{number}"),
+        }
     }
 }
 
-// The record that says what the record at a place came to.
-fn output(
-    heap: Global,
-    place: usize,
-    outcome: Result<Answer, BatchRefusal>,
-) -> Result<String, AllocError>
-    ensures { IfOk result (λ t. string_bytes t ≡ output_of place outcome) }
-{
-    let word = word(outcome);
-    let number = number(outcome);
-    format!(in heap; "{place},{word},{number}\r\n")
+/// A word and the refusal's number, as `refused,11`.
+impl fmt::Display for BatchRefusal {
+    ghost output = { λ refusal. Some (refusal_text refusal) };
+
+    fn fmt<W: fmt::Write>(&self, f: &mut fmt::Formatter<W>) -> fmt::Result {
+        let number = self.number();
+        write!(f, "refused,{number}")
+    }
 }
 
 /// Writes the record that says what the record at a place came to.
+#[tactic(auto, unfolding(crate::specs::Answers::output_of))]
 pub fn put(
     heap: Global,
     out: &mut Vec<u8>,
@@ -129,6 +130,9 @@ pub fn put(
 ) -> Result<(), AllocError>
     ensures { OnOk result (out.new.items ≡ out.old.items ++ output_of place outcome) }
 {
-    let text = output(heap, place, outcome)?;
+    let text = match outcome {
+        Ok(answer) => format!(in heap; "{place},{answer}\r\n")?,
+        Err(refusal) => format!(in heap; "{place},{refusal}\r\n")?,
+    };
     out.extend_from_slice(text.as_bytes())
 }
