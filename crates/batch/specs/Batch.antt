@@ -13,7 +13,7 @@ use Rattle.faults.specs.declared.layers.RecordCause.{RecordCause}
 use Rattle.records.specs.declared.values.PolicyName.{PolicyName}
 use Rattle.records.specs.declared.values.PolicyName.TheVariants.{Confidentiality, Integrity}
 use Rattle.records.specs.declared.values.Record.{Record}
-use Rattle.records.specs.declared.values.Record.TheVariants.{Policy, Object, Session, Request, Close}
+use Rattle.records.specs.declared.values.Record.TheVariants.{Policy}
 use Rattle.records.specs.Lines.{record_of}
 use Rattle.answers.specs.Answers.{output_of}
 use Rattle.batch.specs.Lines.{lines_of}
@@ -50,10 +50,7 @@ blank_places = replicate 1024 blank_entry
 abbrev pub choice : Result Record RecordCause → Result PolicyName BatchRefusal
 choice (Err cause) = Err (refused.Record cause)
 choice (Ok (Policy name)) = Ok name
-choice (Ok (Object l)) = Err refused.OutOfPlace
-choice (Ok (Session c s)) = Err refused.OutOfPlace
-choice (Ok (Request k s o)) = Err refused.OutOfPlace
-choice (Ok (Close s)) = Err refused.OutOfPlace
+choice (Ok r) = Err refused.OutOfPlace
 
 -- the records written once the policy is chosen
 abbrev pub under : PolicyName → ℕ → List (List ℕ) → List ℕ

@@ -1,5 +1,6 @@
 -- The lines of an input.
-use Rattle.std.specs.Prelude.{ℕ, ◌+◌, ◌-◌, ◌≤◌, Bool, cond, ◌&&◌, List, [], ◌∷◌, ◌++◌, length, drop, ◌==◌, nat_lt, slice_index}
+use Rattle.std.specs.Prelude.{◌≡◌, ℕ, ◌+◌, Bool, cond, ◌&&◌, List, [], ◌∷◌, ◌++◌, length, ◌==◌, nat_lt, slice_index, MatchOption, Option}
+use Rattle.batch.specs.declared.lines.Line.{Line}
 use Rattle.batch.specs.declared.lines.Lines.{Lines}
 
 -- CR LF
@@ -16,21 +17,11 @@ lines_of line [] = cond (length line == 0) [] (line ∷ [])
 lines_of line (x ∷ []) = (line ++ x ∷ []) ∷ []
 lines_of line (x ∷ (y ∷ rest)) = cond (breaks x y) (line ∷ lines_of [] rest) (lines_of (line ++ x ∷ []) (y ∷ rest))
 
--- how many octets come before the first CR LF, or before the end
-abbrev pub line_length : List ℕ → ℕ
-line_length [] = 0
-line_length (x ∷ []) = 1
-line_length (x ∷ (y ∷ rest)) = cond (breaks x y) 0 (1 + line_length (y ∷ rest))
-
 -- the lines that were not handed out
 abbrev pub lines_left : Lines → List (List ℕ)
-lines_left l = lines_of [] (drop l.from l.input.now)
+lines_left l = lines_of [] l.rest.now
 
--- how many octets come after those that were handed out
-abbrev pub octets_left : Lines → ℕ
-octets_left l = length l.input.now - l.from
-
--- as many lines as octets at most were handed out, and no octet past the end
-pub record Within (l : Lines) : Type 0 where
-  pub counted : l.taken ≤ l.from
-  pub inside : l.from ≤ length l.input.now
+-- the next line was handed out, with its place; or none was left, and nothing changed
+abbrev pub GivesLine : Lines → Option Line → Lines → Type 0
+GivesLine l given after = MatchOption given ((lines_left l ≡ []) × (after ≡ l))
+    (λ line. (line.place ≡ l.taken + 1) × (after.taken ≡ l.taken + 1) × (lines_left l ≡ line.octets.now ∷ lines_left after))

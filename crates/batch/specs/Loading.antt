@@ -1,5 +1,5 @@
 -- Records that come before the first session.
-use Rattle.std.specs.Prelude.{ℕ, ◌+◌, List, [], ◌∷◌, ◌++◌, length, Ok, Err, Result}
+use Rattle.std.specs.Prelude.{ℕ, ◌+◌, List, [], ◌∷◌, ◌++◌, length, Some, None, Ok, Err, Option, Result}
 use Rattle.labels.specs.declared.grades.GradeLabel.{GradeLabel}
 use Rattle.policies.specs.Model.{Model}
 use Rattle.reference.specs.Results.{and_then, refused_as, free, answer, after}
@@ -15,8 +15,6 @@ use Rattle.records.specs.declared.values.Record.TheVariants.{Policy, Object, Ses
 use Rattle.records.specs.Lines.{record_of}
 use Rattle.answers.specs.Answers.{Outcome, output_of}
 use Rattle.batch.specs.Serving.{label_in, serving}
-use Rattle.batch.specs.declared.loading.Loaded.{Loaded}
-use Rattle.batch.specs.declared.loading.Loaded.TheVariants.{Starts, Came}
 use Rattle.answers.specs.declared.outcomes.Answer.TheVariants as answered
 use Rattle.answers.specs.declared.outcomes.BatchRefusal.{BatchRefusal}
 use Rattle.answers.specs.declared.outcomes.BatchRefusal.TheVariants as refused
@@ -46,32 +44,24 @@ start_answer model (Ok (Session c s)) =
 start_answer model (Ok (Request k s o)) = Err (refused.Call NotEnrolled)
 start_answer model (Ok (Close s)) = Err (refused.Call NotEnrolled)
 
-abbrev pub by_start : Result (Unit {0}) BatchRefusal → Loaded
-by_start (Ok x) = Starts
-by_start (Err f) = Came (Err f)
+-- what a line comes to: nothing yet, where it starts the first session
+abbrev pub by_start : Result (Unit {0}) BatchRefusal → Option Outcome
+by_start (Ok x) = None
+by_start (Err f) = Some (Err f)
 
--- what a line comes to
-abbrev pub loaded_of : {M : Type 0} → Model GradeLabel M → List GradeLabel → Result Record RecordCause → Loaded
-loaded_of model objects (Err cause) = by_start (start_answer model (Err cause))
-loaded_of model objects (Ok (Policy p)) = by_start (start_answer model (Ok (Policy p)))
-loaded_of model objects (Ok (Object label)) = Came (object_answer objects label)
-loaded_of model objects (Ok (Session c s)) = by_start (start_answer model (Ok (Session c s)))
-loaded_of model objects (Ok (Request k s o)) = by_start (start_answer model (Ok (Request k s o)))
-loaded_of model objects (Ok (Close s)) = by_start (start_answer model (Ok (Close s)))
+abbrev pub loaded_of : {M : Type 0} → Model GradeLabel M → List GradeLabel → Result Record RecordCause → Option Outcome
+loaded_of model objects (Ok (Object label)) = Some (object_answer objects label)
+loaded_of model objects r = by_start (start_answer model r)
 
 -- and the objects after it
 abbrev pub load_after : List GradeLabel → Result Record RecordCause → List GradeLabel
-load_after objects (Err cause) = objects
-load_after objects (Ok (Policy p)) = objects
 load_after objects (Ok (Object label)) = object_after objects label
-load_after objects (Ok (Session c s)) = objects
-load_after objects (Ok (Request k s o)) = objects
-load_after objects (Ok (Close s)) = objects
+load_after objects r = objects
 
 -- what is written from a line on: the serving, where it starts the first session, or its own record and the rest
-abbrev pub from_loaded : Loaded → ℕ → List ℕ → List ℕ → List ℕ
-from_loaded Starts place served rest = served
-from_loaded (Came outcome) place served rest = output_of place outcome ++ rest
+abbrev pub from_loaded : Option Outcome → ℕ → List ℕ → List ℕ → List ℕ
+from_loaded None place served rest = served
+from_loaded (Some outcome) place served rest = output_of place outcome ++ rest
 
 -- the records written for lines, the first of which stands at a place
 abbrev pub loading : {M : Type 0} → Model GradeLabel M → List (SessionRow M) → List Entry → List GradeLabel → ℕ → List (List ℕ) → List ℕ

@@ -3,8 +3,10 @@
 
 mod batches;
 mod blanks;
+mod breaks;
 mod lines;
 mod loading;
+mod run;
 mod serving;
 
 pub use batches::run_batch;

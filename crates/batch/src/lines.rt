@@ -1,72 +1,55 @@
 //! The lines of an input: each ends with CR LF, the last perhaps with the input.
-ghost use Rattle.std.specs.Prelude.{◌≡◌, ◌+◌, ◌<◌, ◌≤◌, [], ◌∷◌, length, drop, MatchOption};
-ghost use Rattle.batch.specs.Lines.{breaks_at, line_length, lines_of, lines_left, octets_left, Within};
+ghost use Rattle.std.specs.Prelude.{◌≡◌, ◌+◌, ◌^◌, ◌<◌, [], length};
 
-const CR: u8 = 13;
+use crate::breaks::split_line;
 
-const LF: u8 = 10;
+/// A line without its CR LF, and its place: that of an input's first line is 1.
+#[derive(Clone, Copy)]
+pub(crate) struct Line<'a> {
+    pub(crate) place: usize,
+    pub(crate) octets: &'a [u8],
+}
 
-/// Goes through the lines of an input. `taken` lines were handed out, and the next begins at `from`.
+/// Goes through the lines of an input: `taken` lines were handed out, and `rest` is left.
 #[derive(Drop)]
 pub(crate) struct Lines<'a> {
-    input: &'a [u8],
-    from: usize,
-    pub(crate) taken: usize,
-}
-
-// Whether a CR LF stands at a place.
-fn breaks_at(input: &[u8], at: usize) -> bool
-    requires { at < length input.now }
-    ensures { result ≡ breaks_at input.now at }
-{
-    at + 1 < input.len() && input[at] == CR && input[at + 1] == LF
-}
-
-// Where the line that begins at `from` ends: at its CR LF, or at the input's end.
-fn line_end(input: &[u8], from: usize) -> usize
-    requires { from ≤ length input.now }
-    ensures value { result ≡ from + line_length (drop from input.now) }
-    ensures within { result ≤ length input.now }
-{
-    let mut to = from;
-    while to < input.len() {
-        if breaks_at(input, to) {
-            return to;
-        }
-        to += 1;
-    }
-    to
+    rest: &'a [u8],
+    taken: usize,
+    // Each line that is left has an octet at least, so that the count of lines fits.
+    ghost counted: { taken + length rest.now < 2 ^ 64 },
 }
 
 impl<'a> Lines<'a> {
+    ghost use Rattle.batch.specs.Lines.{lines_of, lines_left};
+
     pub(crate) fn new(input: &'a [u8]) -> Lines<'a>
         ensures left { lines_left result ≡ lines_of [] input.now }
-        ensures within { Within result }
         ensures none { result.taken ≡ 0 }
     {
         Lines {
-            input,
-            from: 0,
+            rest: input,
             taken: 0,
         }
     }
+}
 
-    /// The next line, without its CR LF.
-    pub(crate) fn next_line(&mut self) -> Option<&'a [u8]>
-        requires { Within self.old }
-        ensures left { MatchOption result (lines_left self.old ≡ []) (λ line. lines_left self.old ≡ line.now ∷ lines_left self.new) }
-        ensures taken { MatchOption result (self.new.taken ≡ self.old.taken) (λ _. self.new.taken ≡ self.old.taken + 1) }
-        ensures within { Within self.new }
-        ensures on { MatchOption result (self.new ≡ self.old) (λ _. octets_left self.new < octets_left self.old) }
-    {
-        let input = self.input;
-        let from = self.from;
-        if from >= input.len() {
-            return None;
-        }
-        let end = line_end(input, from);
-        self.from = end.saturating_add(2).min(input.len());
+impl<'a> Iterator for Lines<'a> {
+    type Item = Line<'a>;
+
+    ghost use Rattle.std.specs.Iterator.{item_count};
+    ghost use Rattle.batch.specs.Lines.{lines_left, GivesLine};
+
+    ghost next_gives = { GivesLine };
+
+    ghost remaining = { item_count lines_left };
+
+    fn next(&mut self) -> Option<Line<'a>> {
+        let (octets, rest) = split_line(self.rest)?;
+        self.rest = rest;
         self.taken += 1;
-        Some(&input[from..end])
+        Some(Line {
+            place: self.taken,
+            octets,
+        })
     }
 }

@@ -1,24 +1,21 @@
 //! Records that are put to a monitor, once the first session is there.
-ghost use Rattle.std.specs.Prelude.{◌≡◌, ◌+◌, ◌++◌, OnOk};
+ghost use Rattle.std.specs.Prelude.{◌≡◌, IfOk};
 ghost use Rattle.monitor.specs.View.{view};
 ghost use Rattle.records.specs.Lines.{record_of};
-ghost use Rattle.batch.specs.Lines.{lines_left, Within};
 ghost use Rattle.batch.specs.Serving.{serve_answer, serve_after, line_answer, line_after, serving};
+ghost use Rattle.batch.specs.Run.{finished};
 
-use crate::lines::Lines;
-use answers::{Answer, BatchRefusal, put};
+use crate::run::{Outcome, Run};
+use answers::{Answer, BatchRefusal};
 use labels::GradeLabel;
 use monitor::Monitor;
 use policies::Policy;
 use records::{Record, read_record};
 use reference::Request;
-use std::alloc::{AllocError, Global};
+use std::alloc::AllocError;
 
 // Carries out a record.
-fn serve<P: Policy<Label = GradeLabel>>(
-    monitor: &mut Monitor<'_, P>,
-    record: Record,
-) -> Result<Answer, BatchRefusal>
+fn serve<P: Policy<Label = GradeLabel>>(monitor: &mut Monitor<'_, P>, record: Record) -> Outcome
     ensures answer { result ≡ serve_answer P.Policy.model (view monitor.old) «record» }
     ensures after { view monitor.new ≡ serve_after P.Policy.model (view monitor.old) «record» }
 {
@@ -51,27 +48,25 @@ fn serve<P: Policy<Label = GradeLabel>>(
 pub(crate) fn serve_line<P: Policy<Label = GradeLabel>>(
     monitor: &mut Monitor<'_, P>,
     line: &[u8],
-) -> Result<Answer, BatchRefusal>
+) -> Outcome
     ensures answer { result ≡ line_answer P.Policy.model (view monitor.old) (record_of line.now) }
     ensures after { view monitor.new ≡ line_after P.Policy.model (view monitor.old) (record_of line.now) }
 {
-    let record = read_record(line)?;
-    serve(monitor, record)
+    serve(monitor, read_record(line)?)
 }
 
-// Carries out the records of the lines that are left, and writes what each comes to.
-pub(crate) fn serve_lines<P: Policy<Label = GradeLabel>>(
-    heap: Global,
-    monitor: &mut Monitor<'_, P>,
-    lines: &mut Lines<'_>,
-    out: &mut Vec<u8>,
-) -> Result<(), AllocError>
-    requires { Within lines.old }
-    ensures { OnOk result (out.new.items ≡ out.old.items ++ serving P.Policy.model (view monitor.old) (lines.old.taken + 1) (lines_left lines.old)) }
-{
-    while let Some(line) = lines.next_line() {
-        let outcome = serve_line(monitor, line);
-        put(heap, out, lines.taken, outcome)?;
+impl Run<'_> {
+    /// Carries out the records of the lines that are left, and writes what each comes to.
+    pub(crate) fn serve<P: Policy<Label = GradeLabel>>(
+        mut self,
+        monitor: &mut Monitor<'_, P>,
+    ) -> Result<Vec<u8>, AllocError>
+        ensures { IfOk result (λ out. out.items ≡ finished (serving P.Policy.model (view monitor.old)) self.entry) }
+    {
+        while let Some(line) = self.lines.next() {
+            let outcome = serve_line(monitor, line.octets);
+            self.put(line.place, outcome)?;
+        }
+        Ok(self.out)
     }
-    Ok(())
 }
