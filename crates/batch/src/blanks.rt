@@ -37,12 +37,14 @@ fn blank_row() -> SessionRow<SixLabels<GradeLabel>>
     }
 }
 
+#[tactic(auto, unfolding(crate::specs::Batch::blank_rows))]
 pub(crate) fn blank_rows() -> [SessionRow<SixLabels<GradeLabel>>; SESSION_PLACES]
     ensures { result ≡ blank_rows }
 {
     [blank_row(); SESSION_PLACES]
 }
 
+#[tactic(auto, unfolding(crate::specs::Batch::blank_places))]
 pub(crate) fn blank_places() -> [Entry; LOG_PLACES]
     ensures { result ≡ blank_places }
 {

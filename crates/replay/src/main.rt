@@ -8,9 +8,9 @@ use std::{env, fs, io};
 
 fn main(rt: HostRuntime) -> io::Result<()> {
     for name in env::args(&rt)?.skip(1) {
-        let input = fs::read(&rt, name.as_str())?;
-        let output = run_batch(rt.alloc(), input.as_slice())?;
-        rt.stdout().write_all(output.as_slice())?;
+        let input = fs::read(&rt, &name)?;
+        let output = run_batch(rt.alloc(), &input)?;
+        rt.stdout().write_all(&output)?;
     }
     Ok(())
 }
