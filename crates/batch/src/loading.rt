@@ -7,7 +7,6 @@ ghost use Rattle.batch.specs.Run.{finished};
 
 use crate::blanks::{blank_places, blank_rows};
 use crate::run::{Outcome, Run};
-use crate::serving::serve_line;
 use answers::{Answer, BatchRefusal};
 use faults::RecordCause;
 use labels::GradeLabel;
@@ -85,8 +84,7 @@ impl Run<'_> {
                     let mut rows = blank_rows();
                     let mut places = blank_places();
                     let mut monitor = Monitor::<P>::new(&objects, &mut rows, &mut places);
-                    let outcome = serve_line(&mut monitor, line.octets);
-                    self.put(line.place, outcome)?;
+                    self.serve_line(&mut monitor, line)?;
                     return self.serve(&mut monitor);
                 }
             }

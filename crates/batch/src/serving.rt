@@ -1,10 +1,12 @@
 //! Records that are put to a monitor, once the first session is there.
-ghost use Rattle.std.specs.Prelude.{◌≡◌, IfOk};
+ghost use Rattle.std.specs.Prelude.{◌≡◌, ◌++◌, IfOk, OnOk};
 ghost use Rattle.monitor.specs.View.{view};
 ghost use Rattle.records.specs.Lines.{record_of};
+ghost use Rattle.answers.specs.Answers.{output_of};
 ghost use Rattle.batch.specs.Serving.{serve_answer, serve_after, line_answer, line_after, serving};
 ghost use Rattle.batch.specs.Run.{finished};
 
+use crate::lines::Line;
 use crate::run::{Outcome, Run};
 use answers::{Answer, BatchRefusal};
 use labels::GradeLabel;
@@ -45,10 +47,7 @@ fn serve<P: Policy<Label = GradeLabel>>(monitor: &mut Monitor<'_, P>, record: Re
 }
 
 // Carries out the record of a line.
-pub(crate) fn serve_line<P: Policy<Label = GradeLabel>>(
-    monitor: &mut Monitor<'_, P>,
-    line: &[u8],
-) -> Outcome
+fn answer_line<P: Policy<Label = GradeLabel>>(monitor: &mut Monitor<'_, P>, line: &[u8]) -> Outcome
     ensures answer { result ≡ line_answer P.Policy.model (view monitor.old) (record_of line.now) }
     ensures after { view monitor.new ≡ line_after P.Policy.model (view monitor.old) (record_of line.now) }
 {
@@ -56,6 +55,20 @@ pub(crate) fn serve_line<P: Policy<Label = GradeLabel>>(
 }
 
 impl Run<'_> {
+    /// Carries out the record of a line, and writes what it comes to.
+    pub(crate) fn serve_line<P: Policy<Label = GradeLabel>>(
+        &mut self,
+        monitor: &mut Monitor<'_, P>,
+        line: Line<'_>,
+    ) -> Result<(), AllocError>
+        ensures written { OnOk result (self.new.out.items ≡ self.old.out.items ++ output_of line.entry.place (line_answer P.Policy.model (view monitor.old) (record_of line.entry.octets.now))) }
+        ensures after { view monitor.new ≡ line_after P.Policy.model (view monitor.old) (record_of line.entry.octets.now) }
+        ensures left { self.new.lines ≡ self.old.lines }
+    {
+        let outcome = answer_line(monitor, line.octets);
+        self.put(line.place, outcome)
+    }
+
     /// Carries out the records of the lines that are left, and writes what each comes to.
     pub(crate) fn serve<P: Policy<Label = GradeLabel>>(
         mut self,
@@ -64,8 +77,7 @@ impl Run<'_> {
         ensures { IfOk result (λ out. out.items ≡ finished (serving P.Policy.model (view monitor.old)) self.entry) }
     {
         while let Some(line) = self.lines.next() {
-            let outcome = serve_line(monitor, line.octets);
-            self.put(line.place, outcome)?;
+            self.serve_line(monitor, line)?;
         }
         Ok(self.out)
     }

@@ -12,16 +12,17 @@ use Rattle.batch.proofs.run.Run.load.Goals as goal
 pub returns-in-None : goal.returns-in-None
 returns-in-None g c =
     let model = g.P.Policy.model in
+    let objects = c.loop-line.objects.items in
     let given = c.in-Some.ensures.steps in
-    let put = c.in_ok-put-in-None.ensures in
-    let starts : None ≡ loaded_of model c.loop-line.objects.items (record_of c.in-Some.line.octets.now) = cc (c.in_ok-outcome.ensures.outcome, c.in-None.is) in
-    let kept : c.load_line.new.objects.items ≡ c.loop-line.objects.items = rw c.in-None.is at c.in_ok-outcome.ensures.starts in
-    let made : view c.new-monitor.result ≡ made_over c.loop-line.objects.items blank_rows blank_places =
+    let served = c.in_ok-serve_line-in-None.ensures in
+    let starts : None ≡ loaded_of model objects (record_of c.in-Some.line.octets.now) = cc (c.in_ok-outcome.ensures.outcome, c.in-None.is) in
+    let kept : c.load_line.new.objects.items ≡ objects = rw c.in-None.is at c.in_ok-outcome.ensures.starts in
+    let made : view c.new-monitor.result ≡ made_over objects blank_rows blank_places =
     cc (c.new-monitor.ensures, c.deref.ensures.value, c.blank_rows-rows.ensures, c.blank_places-places.ensures) in
-    let rest = run_starts model blank_rows blank_places c.loop-line.objects.items (view c.new-monitor.result) (view c.serve_line-outcome.new.monitor) c.serve_line-outcome.result
-    c.loop-line.self c.put-in-None.new.self c.next.new.self c.in-Some.line
-    given.0 given.1 given.2 put.written put.left starts made c.serve_line-outcome.ensures.answer c.serve_line-outcome.ensures.after in
+    let rest = run_starts model blank_rows blank_places objects (view c.new-monitor.result) (view c.serve_line.new.monitor)
+    c.loop-line.self c.serve_line.new.self c.next.new.self c.in-Some.line
+    given.0 given.1 given.2 served.written served.left starts made served.after in
     IfOk-weaker c.serve.result
-    (λ out. out.items ≡ finished (serving model (view c.serve_line-outcome.new.monitor)) c.put-in-None.new.self)
+    (λ out. out.items ≡ finished (serving model (view c.serve_line.new.monitor)) c.serve_line.new.self)
     (λ out. out.items ≡ finished (loading model blank_rows blank_places []) c.args.self)
     (λ out e. e ∙ (rest ∙ c.loop-line.invariant)) c.serve.ensures
