@@ -1,10 +1,10 @@
 //! Where the first line of some octets ends.
-ghost use Rattle.std.specs.Prelude.{◌≡◌, ℕ, ◌<◌, [], ◌∷◌, true, false, length, IfSome, MatchOption};
-ghost use Rattle.batch.specs.Lines.{breaks_at, lines_of};
+ghost use Rattle.std.specs.Prelude.{◌≡◌, ◌<◌, [], ◌∷◌, length, IfSome, MatchOption};
+ghost use Rattle.batch.specs.Lines.{FirstBreak, NoBreak, lines_of};
 
 // Where the first CR LF stands.
 fn line_end(input: &[u8]) -> Option<usize>
-    ensures { MatchOption result ((k : ℕ) → breaks_at input.now k ≡ false) (λ end. (breaks_at input.now end ≡ true) × ((k : ℕ) → k < end → breaks_at input.now k ≡ false)) }
+    ensures { MatchOption result (NoBreak input.now) (FirstBreak input.now) }
 {
     input.array_windows().position(|pair| pair == b"\r\n")
 }

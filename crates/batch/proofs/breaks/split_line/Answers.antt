@@ -5,7 +5,7 @@ use Rattle.batch.proofs.breaks.split_line.Goals as goal
 
 pub returns-in-Some-clause-lines : goal.returns-in-Some-clause-lines
 returns-in-Some-clause-lines c =
-    let e = lines_at_break [] c.args.input.now c.in-Some.end c.in-Some.ensures.0 c.in-Some.ensures.1 in
+    let e = lines_at_break [] c.args.input.now c.in-Some.end c.in-Some.ensures in
     grind (arith, common_steps, e)
 
 pub returns-in-None-clause-lines : goal.returns-in-None-clause-lines
