@@ -1,6 +1,5 @@
 //! Records that are put to a monitor, once the first session is there.
 ghost use Rattle.std.specs.Prelude.{◌≡◌, ◌++◌, IfOk, OnOk};
-ghost use Rattle.monitor.specs.View.{view};
 ghost use Rattle.records.specs.Lines.{record_of};
 ghost use Rattle.answers.specs.Answers.{output_of};
 ghost use Rattle.batch.specs.Serving.{serve_answer, serve_after, line_answer, line_after, serving};
@@ -18,8 +17,8 @@ use std::alloc::AllocError;
 
 // Carries out a record.
 fn serve<P: Policy<Label = GradeLabel>>(monitor: &mut Monitor<'_, P>, record: Record) -> Outcome
-    ensures answer { result ≡ serve_answer P.Policy.model (view monitor.old) «record» }
-    ensures after { view monitor.new ≡ serve_after P.Policy.model (view monitor.old) «record» }
+    ensures answer { result ≡ serve_answer P.Policy.model monitor.old «record» }
+    ensures after { monitor.new ≡ serve_after P.Policy.model monitor.old «record» }
 {
     match record {
         Record::Policy(_) | Record::Object(_) => Err(BatchRefusal::OutOfPlace),
@@ -48,8 +47,8 @@ fn serve<P: Policy<Label = GradeLabel>>(monitor: &mut Monitor<'_, P>, record: Re
 
 // Carries out the record of a line.
 fn answer_line<P: Policy<Label = GradeLabel>>(monitor: &mut Monitor<'_, P>, line: &[u8]) -> Outcome
-    ensures answer { result ≡ line_answer P.Policy.model (view monitor.old) (record_of line.now) }
-    ensures after { view monitor.new ≡ line_after P.Policy.model (view monitor.old) (record_of line.now) }
+    ensures answer { result ≡ line_answer P.Policy.model monitor.old (record_of line.now) }
+    ensures after { monitor.new ≡ line_after P.Policy.model monitor.old (record_of line.now) }
 {
     serve(monitor, read_record(line)?)
 }
@@ -61,8 +60,8 @@ impl Run<'_> {
         monitor: &mut Monitor<'_, P>,
         line: Line<'_>,
     ) -> Result<(), AllocError>
-        ensures written { OnOk result (self.new.out.items ≡ self.old.out.items ++ output_of line.entry.place (line_answer P.Policy.model (view monitor.old) (record_of line.entry.octets.now))) }
-        ensures after { view monitor.new ≡ line_after P.Policy.model (view monitor.old) (record_of line.entry.octets.now) }
+        ensures written { OnOk result (self.new.out.items ≡ self.old.out.items ++ output_of line.entry.place (line_answer P.Policy.model monitor.old (record_of line.entry.octets.now))) }
+        ensures after { monitor.new ≡ line_after P.Policy.model monitor.old (record_of line.entry.octets.now) }
         ensures left { self.new.lines ≡ self.old.lines }
     {
         let outcome = answer_line(monitor, line.octets);
@@ -74,7 +73,7 @@ impl Run<'_> {
         mut self,
         monitor: &mut Monitor<'_, P>,
     ) -> Result<Vec<u8>, AllocError>
-        ensures { IfOk result (λ out. out.items ≡ finished (serving P.Policy.model (view monitor.old)) self.entry) }
+        ensures { IfOk result (λ out. out.items ≡ finished (serving P.Policy.model monitor.old) self.entry) }
     {
         while let Some(line) = self.lines.next() {
             self.serve_line(monitor, line)?;

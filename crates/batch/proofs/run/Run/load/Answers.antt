@@ -1,6 +1,6 @@
 use Rattle.std.proofs.Common.{◌≡◌, [], None, ◌∙◌}
 use Rattle.std.proofs.lemmas.Result.{IfOk-weaker}
-use Rattle.monitor.specs.View.{view, made_over}
+use Rattle.monitor.specs.View.{made_over}
 use Rattle.records.specs.Lines.{record_of}
 use Rattle.batch.specs.Batch.{blank_rows, blank_places}
 use Rattle.batch.specs.Loading.{loaded_of, loading}
@@ -17,12 +17,12 @@ returns-in-None g c =
     let served = c.in_ok-serve_line-in-None.ensures in
     let starts : None ≡ loaded_of model objects (record_of c.in-Some.line.octets.now) = cc (c.in_ok-outcome.ensures.outcome, c.in-None.is) in
     let kept : c.load_line.new.objects.items ≡ objects = rw c.in-None.is at c.in_ok-outcome.ensures.starts in
-    let made : view c.new-monitor.result ≡ made_over objects blank_rows blank_places =
+    let made : c.new-monitor.result ≡ made_over objects blank_rows blank_places =
     cc (c.new-monitor.ensures, c.deref.ensures.value, c.blank_rows-rows.ensures, c.blank_places-places.ensures) in
-    let rest = run_starts model blank_rows blank_places objects (view c.new-monitor.result) (view c.serve_line.new.monitor)
+    let rest = run_starts model blank_rows blank_places objects c.new-monitor.result c.serve_line.new.monitor
     c.loop-line.self c.serve_line.new.self c.next.new.self c.in-Some.line
     given.0 given.1 given.2 served.written served.left starts made served.after in
     IfOk-weaker c.serve.result
-    (λ out. out.items ≡ finished (serving model (view c.serve_line.new.monitor)) c.serve_line.new.self)
+    (λ out. out.items ≡ finished (serving model c.serve_line.new.monitor) c.serve_line.new.self)
     (λ out. out.items ≡ finished (loading model blank_rows blank_places []) c.args.self)
     (λ out e. e ∙ (rest ∙ c.loop-line.invariant)) c.serve.ensures
