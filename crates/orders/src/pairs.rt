@@ -11,7 +11,7 @@ pub struct Pair<A, B> {
     pub second: B,
 }
 
-impl<A, B> Pair<A, B> {
+impl<A: Copy, B: Copy> Pair<A, B> {
     // The pair made of two, part by part.
     fn by_part<F: FnOnce(A, A) -> A, G: FnOnce(B, B) -> B>(
         self,
