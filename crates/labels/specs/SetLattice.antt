@@ -29,6 +29,9 @@ and_over_or =
     bin_ind (λ (n : ℕ). (b c : ℕ) → bit_and n (bit_or b c) ≡ bit_or (bit_and n b) (bit_and n c)) (λ b c. refl)
     (λ n ih b c. by_bits _ _ (simp (and_half, or_half) (ih (b / 2) (c / 2))) (simp (and_last, or_last) (omega arith)))
 
+absorbs_left : (a b : ℕ) → bit_and (bit_or a b) a ≡ a
+absorbs_left a b = ap (λ n. bit_and n a) (or_comm a b) ∙ and_or_self a b
+
 module _ (a b : ℕ) where
   pub into : bit_and a b ≡ b → contains a b ≡ true
   unfolding contains
@@ -47,7 +50,7 @@ sets k = record {
   transitive = λ x y z p q.
       into x z (ap (bit_and x) (sym (out y z q)) ∙ sym (and_assoc z x y) ∙ ap (λ n. bit_and n z) (out x y p) ∙ out y z q);
   antisymmetric = λ x y p q. sym (out y x q) ∙ and_comm y x ∙ out x y p;
-  join_left = λ x y. into (bit_or x y) x (ap (λ n. bit_and n x) (or_comm x y) ∙ and_or_self x y);
+  join_left = λ x y. into (bit_or x y) x (absorbs_left x y);
   join_right = λ x y. into (bit_or x y) y (and_or_self y x);
   join_lowest = λ x y z p q. into z (bit_or x y) (and_over_or z x y ∙ ap (λ n. bit_or n (bit_and z y)) (out z x p) ∙ ap (bit_or x) (out z y q));
   meet_left = λ x y. into x (bit_and x y) (sym (and_assoc y x x) ∙ ap (λ n. bit_and n y) (and_self x));
