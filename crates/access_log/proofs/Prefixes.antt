@@ -1,7 +1,7 @@
 -- A table of which the first k are in use, and one more.
 use Rattle.std.proofs.Common.{◌≡◌, ℕ, ◌+◌, ◌-◌, ◌<◌, ◌≤◌, min, List, [], ◌∷◌, reverse, length, take, drop, set, Ok, sym, ap, ◌∙◌, ⊎_elim, add-one, arith}
 use borrow.Rule.Slice.PartMut.{put_mid}
-use Rattle.std.proofs.lemmas.List.{length-take, length-drop, length-reverse, length-set, reverse-append, take_more_set, set_split, take_all, take_rest, drop_more, drop_all, append-nil, drop-set-lt, drop-drop}
+use Rattle.std.proofs.lemmas.List.{length-take, length-drop, length-reverse, reverse-append, take_more_set, set_split, take_all, take_rest, drop_more, drop_all, append-nil, drop-set-lt, drop-drop}
 use Rattle.std.proofs.lemmas.Bool.Decides.{nat_tests}
 use Rattle.std.proofs.lemmas.Bool.{cases_lt}
 use Rattle.reference.specs.Results.{free}

@@ -1,5 +1,5 @@
 //! The session table: one container for the marks of every policy.
-ghost use Rattle.std.specs.Prelude.{◌≡◌, ◌<◌, [], ◌∷◌, ◌++◌, length, take, drop, slice_set};
+ghost use Rattle.std.specs.Prelude.{◌≡◌, ◌<◌, [], ◌∷◌, ◌++◌, length, take, drop, slice_set, IfOk};
 ghost use Rattle.std.specs.List.{slice_get};
 ghost use Rattle.std.specs.Option.{ok_or};
 ghost use Rattle.reference.specs.Results.{free};
@@ -63,9 +63,10 @@ impl<'a, M: Copy> SessionTable<'a, M> {
             .ok_or(Refusal::NotEnrolled)
     }
 
-    /// The marks of an open session.
+    /// The marks of an open session, which is one that is enrolled.
     pub(crate) fn open_marks(&self, session: usize) -> Result<M, Refusal>
-        ensures { result ≡ open_marks self.now.sessions session }
+        ensures answer { result ≡ open_marks self.now.sessions session }
+        ensures enrolled { IfOk result (λ _. session < length self.now.sessions) }
     {
         let found = self.row(session)?;
         match found.state {
