@@ -1,16 +1,11 @@
 -- Faults, each with the one below it whole.
 use Rattle.std.specs.Prelude.{ℕ, Ok, Err, Result}
-use Rattle.faults.specs.declared.layers.Placed.{Placed}
 use Rattle.faults.specs.declared.layers.FieldCause.{FieldCause}
 use Rattle.faults.specs.declared.layers.FieldCause.TheVariants.{Word, Number, Base16, Tag}
 use Rattle.faults.specs.declared.layers.FieldFault.{FieldFault}
 use Rattle.faults.specs.declared.layers.RecordCause.{RecordCause}
 use Rattle.faults.specs.declared.layers.RecordCause.TheVariants.{TooLong, Stray, FieldCount, Field}
 use Rattle.faults.specs.declared.layers.RecordFault.{RecordFault}
-
-abbrev pub placed_of : {T E : Type 0} → Result T E → ℕ → Result T (Placed E)
-placed_of (Ok x) n = Ok x
-placed_of (Err e) n = Err (record { place = n; fault = e })
 
 abbrev pub at_field : ℕ → FieldCause → FieldFault
 at_field n c = record { field = n; cause = c }

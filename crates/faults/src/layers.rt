@@ -1,6 +1,6 @@
 //! What is wrong with a record. Each fault has the place of what it speaks of, and carries the fault below it whole.
 ghost use Rattle.std.specs.Prelude.{◌≡◌};
-ghost use Rattle.faults.specs.Faults.{placed_of, at_field, at_record, field_refusal, refusal_number};
+ghost use Rattle.faults.specs.Faults.{at_field, at_record, field_refusal, refusal_number};
 ghost use Rattle.faults.specs.declared.layers.FieldCause.TheVariants.{Number, Base16, Tag};
 ghost use Rattle.faults.specs.declared.layers.RecordCause.TheVariants.{Field};
 
@@ -53,20 +53,12 @@ pub struct RecordFault {
     pub cause: RecordCause,
 }
 
-/// A fault, with the place of what it speaks of.
-#[derive(Clone, Copy)]
-pub struct Placed<E> {
-    pub place: usize,
-    pub fault: E,
-}
-
-/// Adds the place to a fault, for `?` to pass up.
-pub fn at_place<T, E>(res: Result<T, E>, place: usize) -> Result<T, Placed<E>>
-    ensures { result ≡ placed_of res place }
-{
-    match res {
-        Ok(value) => Ok(value),
-        Err(fault) => Err(Placed { place, fault }),
+impl FieldCause {
+    /// The fault of a field that is wrong for this cause.
+    pub fn in_field(self, field: usize) -> FieldFault
+        ensures { result ≡ at_field field self }
+    {
+        FieldFault { field, cause: self }
     }
 }
 
@@ -90,6 +82,16 @@ impl RecordCause {
         match self {
             RecordCause::Field(field) => field.number(),
             RecordCause::TooLong | RecordCause::Stray(_) | RecordCause::FieldCount => 10,
+        }
+    }
+
+    /// The fault of a record that is wrong for this cause.
+    pub fn in_record(self, record: usize) -> RecordFault
+        ensures { result ≡ at_record «record» self }
+    {
+        RecordFault {
+            record,
+            cause: self,
         }
     }
 }
@@ -118,32 +120,10 @@ impl From<TagFault> for FieldCause {
     }
 }
 
-impl From<Placed<FieldCause>> for FieldFault {
-    ghost from_gives = { λ p r. r ≡ at_field p.place p.fault };
-
-    fn from(it: Placed<FieldCause>) -> FieldFault {
-        FieldFault {
-            field: it.place,
-            cause: it.fault,
-        }
-    }
-}
-
 impl From<FieldFault> for RecordCause {
     ghost from_gives = { λ f r. r ≡ Field f };
 
     fn from(fault: FieldFault) -> RecordCause {
         RecordCause::Field(fault)
-    }
-}
-
-impl From<Placed<RecordCause>> for RecordFault {
-    ghost from_gives = { λ p r. r ≡ at_record p.place p.fault };
-
-    fn from(it: Placed<RecordCause>) -> RecordFault {
-        RecordFault {
-            record: it.place,
-            cause: it.fault,
-        }
     }
 }

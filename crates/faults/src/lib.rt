@@ -3,6 +3,4 @@
 
 mod layers;
 
-pub use layers::{
-    Base16Fault, FieldCause, FieldFault, NumberFault, Placed, RecordCause, RecordFault, at_place,
-};
+pub use layers::{Base16Fault, FieldCause, FieldFault, NumberFault, RecordCause, RecordFault};

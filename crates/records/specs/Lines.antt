@@ -28,7 +28,7 @@ session_record clearance start = passed (label_field clearance 1) (λ f. f) (λ 
 
 abbrev pub request_record : Kind → List ℕ → List ℕ → Result Record FieldFault
 request_record kind session object =
-    passed (number_field session 1) (λ f. f) (λ s. passed (number_field object 2) (λ f. f) (λ o. Ok (Request kind s o)))
+    passed (number_field session 1) (λ f. f) (λ s. passed (number_field object 2) (λ f. f) (λ o. Ok (Request (record { session = s; object = o; kind = kind }))))
 
 -- what is wrong with a field is wrong with the record
 abbrev pub of_fields : Result Record FieldFault → Result Record RecordCause
@@ -76,7 +76,7 @@ abbrev pub tags_of : Record → Result (Unit {0}) FieldFault
 tags_of (Policy p) = Ok tt
 tags_of (Object l) = passed l (λ f. f) (λ _. Ok tt)
 tags_of (Session c s) = passed c (λ f. f) (λ _. passed s (λ f. f) (λ _. Ok tt))
-tags_of (Request k s o) = Ok tt
+tags_of (Request r) = Ok tt
 tags_of (Close s) = Ok tt
 
 -- the record of a line, with right tags

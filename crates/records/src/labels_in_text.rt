@@ -4,7 +4,7 @@ ghost use Rattle.records.specs.Texts.{written_label, label_field};
 
 use crate::base16::decode;
 use crate::values::LabelField;
-use faults::{Base16Fault, FieldCause, FieldFault, at_place};
+use faults::{Base16Fault, FieldCause, FieldFault};
 use labels::GradeLabel;
 use tags::{TagFault, read_tag};
 
@@ -32,10 +32,8 @@ pub(crate) fn label_field(text: &[u8], field: usize) -> Result<LabelField, Field
     ensures { result ≡ label_field text.now field }
 {
     match read_label(text) {
-        Err(FieldCause::Tag(fault)) => Ok(Err(FieldFault {
-            field,
-            cause: FieldCause::Tag(fault),
-        })),
-        read => Ok(Ok(at_place(read, field)?)),
+        Ok(label) => Ok(Ok(label)),
+        Err(cause @ FieldCause::Tag(_)) => Ok(Err(cause.in_field(field))),
+        Err(cause) => Err(cause.in_field(field)),
     }
 }

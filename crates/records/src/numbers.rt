@@ -1,10 +1,8 @@
 //! Numbers.
-ghost use Rattle.std.specs.Prelude.{◌≡◌, Ok};
+ghost use Rattle.std.specs.Prelude.{◌≡◌};
 ghost use Rattle.records.specs.Texts.{number_of, number_field};
-ghost use Rattle.faults.specs.Faults.{passed};
-ghost use Rattle.faults.specs.declared.layers.FieldCause.TheVariants.{Number};
 
-use faults::{FieldCause, FieldFault, NumberFault, at_place};
+use faults::{FieldCause, FieldFault, NumberFault};
 
 const MOST_DIGITS: usize = 5;
 
@@ -25,16 +23,9 @@ pub fn read_number(text: &[u8]) -> Result<usize, NumberFault>
     Ok(value)
 }
 
-// The same, as a cause of the field's fault.
-fn read_index(text: &[u8]) -> Result<usize, FieldCause>
-    ensures { result ≡ passed (number_of text.now) Number (λ n. Ok n) }
-{
-    Ok(read_number(text)?)
-}
-
 // The number in a record's field.
 pub(crate) fn number_field(text: &[u8], field: usize) -> Result<usize, FieldFault>
     ensures { result ≡ number_field text.now field }
 {
-    Ok(at_place(read_index(text), field)?)
+    read_number(text).map_err(|fault| FieldCause::from(fault).in_field(field))
 }

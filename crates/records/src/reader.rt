@@ -10,8 +10,9 @@ use crate::labels_in_text::label_field;
 use crate::numbers::number_field;
 use crate::values::Record;
 use crate::words::{Word, read_policy_name, read_word};
-use faults::{FieldFault, RecordCause, RecordFault, at_place};
+use faults::{FieldFault, RecordCause, RecordFault};
 use policies::Kind;
+use reference::Request;
 
 const LONGEST: usize = 256;
 
@@ -39,27 +40,27 @@ fn stray_octet(line: &[u8]) -> Option<usize>
 fn policy_record(name: &[u8]) -> Result<Record, FieldFault>
     ensures { result ≡ policy_record name.now }
 {
-    Ok(Record::Policy(at_place(read_policy_name(name), 1)?))
+    let name = read_policy_name(name).map_err(|cause| cause.in_field(1))?;
+    Ok(Record::Policy(name))
 }
 
 fn session_record(clearance: &[u8], start: &[u8]) -> Result<Record, FieldFault>
     ensures { result ≡ session_record clearance.now start.now }
 {
-    let clearance = label_field(clearance, 1)?;
-    let start = label_field(start, 2)?;
-    Ok(Record::Session { clearance, start })
+    Ok(Record::Session {
+        clearance: label_field(clearance, 1)?,
+        start: label_field(start, 2)?,
+    })
 }
 
 fn request_record(kind: Kind, session: &[u8], object: &[u8]) -> Result<Record, FieldFault>
     ensures { result ≡ request_record kind session.now object.now }
 {
-    let session = number_field(session, 1)?;
-    let object = number_field(object, 2)?;
-    Ok(Record::Request {
+    Ok(Record::Request(Request {
+        session: number_field(session, 1)?,
+        object: number_field(object, 2)?,
         kind,
-        session,
-        object,
-    })
+    }))
 }
 
 // A record of a word and one field more.
@@ -88,7 +89,7 @@ fn with_two(word: Word, first: &[u8], second: &[u8]) -> Result<Record, RecordCau
 fn word_field(text: &[u8]) -> Result<Word, FieldFault>
     ensures { result ≡ passed (word_of text.now) (at_field 0) (λ w. Ok w) }
 {
-    Ok(at_place(read_word(text), 0)?)
+    read_word(text).map_err(|cause| cause.in_field(0))
 }
 
 // A record of its fields: a word, and one or two more.
@@ -139,7 +140,7 @@ fn check_tags(record: Record) -> Result<(), FieldFault>
             clearance?;
             start?;
         }
-        Record::Policy(_) | Record::Request { .. } | Record::Close(_) => {}
+        Record::Policy(_) | Record::Request(_) | Record::Close(_) => {}
     }
     Ok(())
 }
@@ -157,5 +158,5 @@ fn read_whole(line: &[u8]) -> Result<Record, RecordCause>
 pub fn read_record_at(line: &[u8], place: usize) -> Result<Record, RecordFault>
     ensures { result ≡ record_at line.now place }
 {
-    Ok(at_place(read_whole(line), place)?)
+    read_whole(line).map_err(|cause| cause.in_record(place))
 }

@@ -1,7 +1,7 @@
 //! What a record says.
 use faults::FieldFault;
 use labels::GradeLabel;
-use policies::Kind;
+use reference::Request;
 
 /// A label, or the fault of its tag, which counts only once the record is known to be in place.
 pub type LabelField = Result<GradeLabel, FieldFault>;
@@ -22,10 +22,6 @@ pub enum Record {
         clearance: LabelField,
         start: LabelField,
     },
-    Request {
-        kind: Kind,
-        session: usize,
-        object: usize,
-    },
+    Request(Request),
     Close(usize),
 }

@@ -3,6 +3,7 @@ use faults::{Base16Fault, FieldCause, FieldFault, NumberFault, RecordCause, Reco
 use labels::GradeLabel;
 use policies::Kind;
 use records::{Record, read_record, read_record_at};
+use reference::Request;
 use tags::TagFault;
 
 fn at_field(field: usize, cause: FieldCause) -> Result<Record, RecordCause> {
@@ -12,11 +13,11 @@ fn at_field(field: usize, cause: FieldCause) -> Result<Record, RecordCause> {
 #[test]
 fn records_are_read(rt: HostRuntime) {
     let grade2 = Ok(GradeLabel::from_map(2, &[]));
-    let request = Record::Request {
-        kind: Kind::Read,
+    let request = Record::Request(Request {
         session: 0,
         object: 1,
-    };
+        kind: Kind::Read,
+    });
     assert_eq!(rt; read_record(b"read,0,1"), Ok(request));
     let session = Record::Session {
         clearance: grade2,
