@@ -1,65 +1,68 @@
 -- The steps of the fields' readers, over lists.
-use Rattle.std.proofs.Common.{◌≡◌, ℕ, ◌+◌, ◌-◌, ◌*◌, ◌<◌, ◌≤◌, Bool, true, false, cond, ltb, ◌⊎◌, List, [], ◌∷◌, ◌++◌, length, get_or, take, drop, Some, None, Ok, Err, sym, refl, ap, ◌∙◌, arith}
-use Rattle.std.proofs.lemmas.List.{drop_more, drop_all, length-take-le}
-use Rattle.std.proofs.lemmas.Bool.{le-ltb}
+use Rattle.std.proofs.Common.{◌≡◌, ℕ, zero, suc, ◌+◌, ◌*◌, ◌/◌, ◌<◌, ◌≤◌, cond, ltb, ◌⊎◌, inl, inr, List, [], ◌∷◌, ◌++◌, length, get_or, take, drop, Some, None, Option, Ok, Err, Result, refl, ap, ◌∙◌, arith, length-drop}
+use Rattle.std.specs.List.{position, position_or_len}
+use Rattle.std.specs.Result.{MatchResult}
+use Rattle.std.specs.Simd.{first_chunks}
+use Rattle.std.proofs.lemmas.List.{drop_more, drop-drop}
+use Rattle.std.proofs.lemmas.Bool.{cases_Bool}
 use Rattle.std.proofs.lemmas.Bool.Decides.{nat_tests}
-use Rattle.labels.specs.declared.grades.GradeLabel.{GradeLabel}
-use Rattle.tags.specs.declared.faults.TagFault.{TagFault}
-use Rattle.tags.specs.Tag.{tag_of}
-use Rattle.faults.specs.declared.layers.FieldCause.TheVariants.{Tag}
+use Rattle.faults.specs.declared.layers.Base16Fault.{Base16Fault}
+use Rattle.faults.specs.declared.layers.FieldCause.{FieldCause}
+use Rattle.faults.specs.declared.layers.FieldFault.{FieldFault}
 use Rattle.records.specs.Fields.{stray, stray_from}
-use Rattle.records.specs.Texts.{digits_from, number_of, base16, is_hex, hex_value, hex_digit, written_label}
-use native.Mathlib.Nat.{sub-zero}
+use Rattle.records.specs.Texts.{digits_from, base16, is_hex, hex_digit}
 
-pub digits_more : (v i : ℕ) (xs : List ℕ) → i < length xs → i < 5 → 48 ≤ get_or xs i 0 → get_or xs i 0 ≤ 57
-    → digits_from v i (drop i xs) ≡ digits_from (v * 10 + (get_or xs i 0 - 48)) (i + 1) (drop (i + 1) xs)
-digits_more v i xs h five low high = rw (drop_more xs i 0 h) (grind (arith, nat_tests))
-
+-- the octet of a number at which its reading stops
 pub digits_stop : (v i : ℕ) (xs : List ℕ) → i < length xs → (i ≡ 5) ⊎ ((get_or xs i 0 < 48) ⊎ (57 < get_or xs i 0))
     → digits_from v i (drop i xs) ≡ Err (record { octet = i })
 digits_stop v i xs h w = rw (drop_more xs i 0 h) (grind (arith, nat_tests))
 
-pub digits_end : (v i : ℕ) (xs : List ℕ) → length xs ≤ i → digits_from v i (drop i xs) ≡ Ok v
-digits_end v i xs h = rw (drop_all i xs h)
-
-pub number_digits : (xs : List ℕ) → 0 < length xs → (length xs ≤ 1) ⊎ (get_or xs 0 0 ≡ 48 → ⊥) → number_of xs ≡ digits_from 0 0 xs
-number_digits xs h w = grind (arith, nat_tests)
-
 -- the search for a stray octet
-pub stray_found : (i : ℕ) (xs : List ℕ) → i < length xs → stray (get_or xs i 0) ≡ true → stray_from i (drop i xs) ≡ Some i
-stray_found i xs h e = rw (drop_more xs i 0 h, e)
+pub stray_from-position : (i : ℕ) (xs : List ℕ) → stray_from i xs ≡ cond (ltb (position_or_len stray xs) (length xs)) (Some (i + position_or_len stray xs)) None
+stray_from-position i [] = refl
+stray_from-position i (c ∷ cs) = elim (cases_Bool (stray c)) [
+  | inl e ↦ rw e (grind (arith, nat_tests))
+  | inr e ↦ rw (e, stray_from-position (i + 1) cs) (grind (arith, nat_tests))
+]
 
-pub stray_more : (i : ℕ) (xs : List ℕ) → i < length xs → stray (get_or xs i 0) ≡ false → stray_from i (drop i xs) ≡ stray_from (i + 1) (drop (i + 1) xs)
-stray_more i xs h e = rw (drop_more xs i 0 h, e)
+pub position_stray : (xs : List ℕ) → stray_from 0 xs ≡ position stray xs
+position_stray xs = rw (stray_from-position 0 xs) (grind arith)
 
-pub stray_end : (i : ℕ) (xs : List ℕ) → length xs ≤ i → stray_from i (drop i xs) ≡ None
-stray_end i xs h = rw (drop_all i xs h)
+-- the pairs of digits
+pairs_at : (k i : ℕ) (xs : List ℕ) → i < k → get_or (first_chunks 2 k xs) i [] ≡ take 2 (drop (2 * i) xs)
+pairs_at zero i xs h = absurd (omega arith)
+pairs_at (suc k) zero xs h = refl
+pairs_at (suc k) (suc i) xs h =
+    let low : i < k = omega arith in
+    let far : 2 * suc i ≡ 2 + 2 * i = omega arith in
+    rw far (pairs_at k i (drop 2 xs) low ∙ ap (λ (ys : List ℕ). take 2 ys) (drop-drop (2 * i) 2 xs))
 
-by_test : (b : Bool) (u v : ℕ) → Some v ≡ cond b (Some u) None → (b ≡ true) × (v ≡ u)
-by_test true u v e = (refl, cc)
-by_test false u v e = let z : ◌≡◌ {A = ℕ} 0 1 = cc in absurd (omega arith)
+-- Base 16 by what pair i stands for, after the octets that are done
+abbrev pub by_pair : Option ℕ → Option ℕ → ℕ → List ℕ → List ℕ → Result (List ℕ) Base16Fault
+by_pair None lower i done rest = Err (record { octet = 2 * i })
+by_pair (Some u) None i done rest = Err (record { octet = 2 * i + 1 })
+by_pair (Some u) (Some l) i done rest = base16 (2 * (i + 1)) (done ++ ((u * 16 + l) ∷ [])) rest
 
--- one pair of Base 16 digits
-pub base16_more : (at : ℕ) (done xs : List ℕ) (u l : ℕ) → 2 ≤ length xs → Some u ≡ hex_digit (get_or xs 0 0) → Some l ≡ hex_digit (get_or xs 1 0)
-    → base16 at done xs ≡ base16 (at + 2) (done ++ ((u * 16 + l) ∷ [])) (drop 2 xs)
-base16_more at done [] u l h p q = absurd (omega arith)
-base16_more at done (a ∷ []) u l h p q = absurd (omega arith)
-base16_more at done (a ∷ (b ∷ xs)) u l h p q =
-    let x = by_test (is_hex a) (hex_value a) u p in
-    let y = by_test (is_hex b) (hex_value b) l q in
-    rw (x.0, y.0, x.1, y.1)
+front_pair : (i at : ℕ) (done xs : List ℕ) → at ≡ 2 * i → 2 ≤ length xs
+    → base16 at done xs ≡ by_pair (hex_digit (get_or (take 2 xs) 0 0)) (hex_digit (get_or (take 2 xs) 1 0)) i done (drop 2 xs)
+front_pair i at done [] is h = absurd (omega arith)
+front_pair i at done (a ∷ []) is h = absurd (omega arith)
+front_pair i at done (a ∷ (b ∷ xs)) is h =
+    let next : 2 * (i + 1) ≡ at + 2 = omega arith in
+    elim (cases_Bool (is_hex a)) [
+      | inl e ↦ elim (cases_Bool (is_hex b)) [ inl f ↦ rw (e, f, next) | inr f ↦ rw (e, f, is) ]
+      | inr e ↦ rw (e, is)
+    ]
 
--- a tag in Base 16, once its octets are the first n of a buffer
-pub label_fault : (text ys : List ℕ) (n : ℕ) (f : TagFault) → length text ≤ 256 → base16 0 [] text ≡ Ok (take n ys) → Err f ≡ tag_of (take (n - 0) ys)
-    → written_label text ≡ Err (Tag f)
-label_fault text ys n f h e t =
-    let no : ltb 256 (length text) ≡ false = le-ltb 256 (length text) h in
-    let is : tag_of (take n ys) ≡ Err f = ap (λ (k : ℕ). tag_of (take k ys)) (sym (sub-zero n)) ∙ sym t in
-    rw (no, e, is)
+pub pair_read : (text done : List ℕ) (i : ℕ) → i < length text / 2
+    → base16 (2 * i) done (drop (2 * i) text)
+    ≡ by_pair (hex_digit (get_or (get_or (first_chunks 2 (length text / 2) text) i []) 0 0)) (hex_digit (get_or (get_or (first_chunks 2 (length text / 2) text) i []) 1 0)) i done (drop (2 * (i + 1)) text)
+pair_read text done i h =
+    let long : 2 ≤ length (drop (2 * i) text) = omega (arith, length-drop (2 * i) text) in
+    let after : drop 2 (drop (2 * i) text) ≡ drop (2 * (i + 1)) text = drop-drop 2 (2 * i) text ∙ ap (λ (n : ℕ). drop n text) (omega arith) in
+    rw (pairs_at (length text / 2) i text h, front_pair i (2 * i) done (drop (2 * i) text) refl long, after)
 
-pub label_label : (text ys : List ℕ) (n : ℕ) (l : GradeLabel) (u : ℕ) → length text ≤ 256 → n ≤ length ys → base16 0 [] text ≡ Ok (take n ys)
-    → Ok (l, u) ≡ tag_of (take (n - 0) ys) → written_label text ≡ cond (ltb u n) (Err (Tag (record { octet = u }))) (Ok l)
-label_label text ys n l u h within e t =
-    let no : ltb 256 (length text) ≡ false = le-ltb 256 (length text) h in
-    let is : tag_of (take n ys) ≡ Ok (l, u) = ap (λ (k : ℕ). tag_of (take k ys)) (sym (sub-zero n)) ∙ sym t in
-    rw (no, e, is, length-take-le n ys within)
+-- a value that was passed on where a fault would have got its field
+pub ok_from_map_err : {T : Type 0} (r : Result T FieldCause) (x : T) → MatchResult r (λ y. ◌≡◌ {A = Result T FieldFault} (Ok x) (Ok y)) (λ _. ⊥) → r ≡ Ok x
+ok_from_map_err (Ok y) x e = let same : y ≡ x = cc in rw same
+ok_from_map_err (Err f) x e = absurd e

@@ -16,27 +16,21 @@ fn hex_digit(octet: u8) -> Option<u8>
 }
 
 // Reads pairs of digits into the front of `out`, and says how many octets that are.
+#[tactic(auto, using(crate::proofs::Steps::pair_read, std::proofs::lemmas::List::take_more_set))]
 pub(crate) fn decode(text: &[u8], out: &mut [u8]) -> Result<usize, Base16Fault>
     requires { length text.now ≤ 2 * length out.old }
     ensures { MatchResult result (λ n. Decoded text.now out.new n) (λ f. base16 0 [] text.now ≡ Err f) }
 {
-    let mut count = 0usize;
-    let mut left = text;
-    while let [high, low, rest @ ..] = left {
-        let Some(upper) = hex_digit(*high) else {
-            return Err(Base16Fault { octet: 2 * count });
-        };
-        let Some(lower) = hex_digit(*low) else {
-            return Err(Base16Fault {
-                octet: 2 * count + 1,
-            });
-        };
-        out[count] = upper * 16 + lower;
-        count += 1;
-        left = rest;
+    let (pairs, rest) = text.as_chunks::<2>();
+    for (i, [high, low]) in pairs.iter().enumerate() {
+        let upper = hex_digit(*high).ok_or(Base16Fault { octet: 2 * i })?;
+        let lower = hex_digit(*low).ok_or(Base16Fault { octet: 2 * i + 1 })?;
+        out[i] = upper * 16 + lower;
     }
-    if !left.is_empty() {
-        return Err(Base16Fault { octet: 2 * count });
+    if !rest.is_empty() {
+        return Err(Base16Fault {
+            octet: 2 * pairs.len(),
+        });
     }
-    Ok(count)
+    Ok(pairs.len())
 }

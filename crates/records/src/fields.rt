@@ -10,12 +10,5 @@ const COMMA: u8 = b',';
 pub fn field_at(line: &[u8], from: usize) -> Option<&[u8]>
     ensures { option_map (λ x. x.now) result ≡ field_of line.now from }
 {
-    if from > line.len() {
-        return None;
-    }
-    let mut to = from;
-    while to < line.len() && line[to] != COMMA {
-        to += 1;
-    }
-    Some(&line[from..to])
+    line.get(from..)?.split(|octet| *octet == COMMA).next()
 }

@@ -1,6 +1,6 @@
 //! Labels, as tags in Base 16.
 ghost use Rattle.std.specs.Prelude.{◌≡◌};
-ghost use Rattle.records.specs.Texts.{written_label, label_field};
+ghost use Rattle.records.specs.Texts.{only_tag, written_label, label_field};
 
 use crate::base16::decode;
 use crate::values::LabelField;
@@ -20,8 +20,15 @@ pub fn read_label(text: &[u8]) -> Result<GradeLabel, FieldCause>
     }
     let mut octets = [0u8; 128];
     let count = decode(text, &mut octets)?;
-    let (label, used) = read_tag(&octets[0..count])?;
-    if used < count {
+    only_tag(&octets[..count])
+}
+
+// The label of one tag that fills all octets.
+fn only_tag(octets: &[u8]) -> Result<GradeLabel, FieldCause>
+    ensures { result ≡ only_tag octets.now }
+{
+    let (label, used) = read_tag(octets)?;
+    if used < octets.len() {
         return Err(FieldCause::Tag(TagFault { octet: used }));
     }
     Ok(label)

@@ -7,15 +7,16 @@ use faults::{FieldCause, FieldFault, NumberFault};
 const MOST_DIGITS: usize = 5;
 
 /// A number of one to five decimal digits, with no needless zero in front.
+#[tactic(auto, using(crate::proofs::Steps::digits_stop))]
 pub fn read_number(text: &[u8]) -> Result<usize, NumberFault>
     ensures { result ≡ number_of text.now }
 {
-    if text.is_empty() || (text.len() > 1 && text[0] == b'0') {
+    if let [] | [b'0', _, ..] = text {
         return Err(NumberFault { octet: 0 });
     }
     let mut value = 0usize;
     for (i, octet) in text.iter().enumerate() {
-        if i == MOST_DIGITS || *octet < b'0' || *octet > b'9' {
+        if i == MOST_DIGITS || !octet.is_ascii_digit() {
             return Err(NumberFault { octet: i });
         }
         value = value * 10 + usize::from(*octet - b'0');

@@ -1,15 +1,13 @@
 //! Reading a record.
-ghost use Rattle.std.specs.Prelude.{◌≡◌, ◌≤◌, length, Ok};
-ghost use Rattle.faults.specs.Faults.{passed, at_field};
+ghost use Rattle.std.specs.Prelude.{◌≡◌, ◌≤◌, length};
 ghost use Rattle.records.specs.Fields.{fields_of, stray, stray_from};
-ghost use Rattle.records.specs.Words.{word_of};
 ghost use Rattle.records.specs.Lines.{policy_record, session_record, request_record, with_one, with_two, by_fields, record_of, tags_of, whole_record, record_at};
 
 use crate::fields::field_at;
 use crate::labels_in_text::label_field;
 use crate::numbers::number_field;
-use crate::values::Record;
-use crate::words::{Word, read_policy_name, read_word};
+use crate::values::{PolicyName, Record};
+use crate::words::Word;
 use faults::{FieldFault, RecordCause, RecordFault};
 use policies::Kind;
 use reference::Request;
@@ -22,25 +20,20 @@ const QUOTE: u8 = b'"';
 fn is_stray(octet: u8) -> bool
     ensures { result ≡ stray octet }
 {
-    octet == QUOTE || octet == b'\r' || octet == b'\n'
+    matches!(octet, QUOTE | b'\r' | b'\n')
 }
 
 // The first stray octet of a record.
 fn stray_octet(line: &[u8]) -> Option<usize>
     ensures { result ≡ stray_from 0 line.now }
 {
-    for (at, octet) in line.iter().enumerate() {
-        if is_stray(*octet) {
-            return Some(at);
-        }
-    }
-    None
+    line.iter().position(|octet| is_stray(*octet))
 }
 
 fn policy_record(name: &[u8]) -> Result<Record, FieldFault>
     ensures { result ≡ policy_record name.now }
 {
-    let name = read_policy_name(name).map_err(|cause| cause.in_field(1))?;
+    let name = PolicyName::try_from(name).map_err(|cause| cause.in_field(1))?;
     Ok(Record::Policy(name))
 }
 
@@ -86,25 +79,16 @@ fn with_two(word: Word, first: &[u8], second: &[u8]) -> Result<Record, RecordCau
     }
 }
 
-fn word_field(text: &[u8]) -> Result<Word, FieldFault>
-    ensures { result ≡ passed (word_of text.now) (at_field 0) (λ w. Ok w) }
-{
-    read_word(text).map_err(|cause| cause.in_field(0))
-}
-
 // A record of its fields: a word, and one or two more.
+#[tactic(auto, using(crate::proofs::Splits::fields_by_field, crate::proofs::Splits::rest_by_field))]
 fn read_fields(line: &[u8]) -> Result<Record, RecordCause>
     requires { length line.now ≤ 256 }
     ensures { result ≡ by_fields (fields_of line.now) }
 {
-    let Some(first) = field_at(line, 0) else {
-        return Err(RecordCause::FieldCount);
-    };
-    let word = word_field(first)?;
+    let first = field_at(line, 0).ok_or(RecordCause::FieldCount)?;
+    let word = Word::try_from(first).map_err(|cause| cause.in_field(0))?;
     let next = first.len() + 1;
-    let Some(second) = field_at(line, next) else {
-        return Err(RecordCause::FieldCount);
-    };
+    let second = field_at(line, next).ok_or(RecordCause::FieldCount)?;
     let after = next + second.len() + 1;
     let Some(third) = field_at(line, after) else {
         return with_one(word, second);
@@ -116,6 +100,7 @@ fn read_fields(line: &[u8]) -> Result<Record, RecordCause>
 }
 
 /// The record that a line is: at most 256 octets, with no quote and no end of a line.
+#[tactic(auto, unfolding(crate::specs::Lines::record_of))]
 pub fn read_record(line: &[u8]) -> Result<Record, RecordCause>
     ensures { result ≡ record_of line.now }
 {

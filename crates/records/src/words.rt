@@ -16,42 +16,37 @@ pub(crate) enum Word {
     Close,
 }
 
-fn is(text: &[u8], word: &[u8]) -> bool
-    ensures { result ≡ says text.now word.now }
-{
-    text == word
-}
+impl TryFrom<&[u8]> for Word {
+    type Error = FieldCause;
 
-pub(crate) fn read_word(text: &[u8]) -> Result<Word, FieldCause>
-    ensures { result ≡ word_of text.now }
-{
-    if is(text, b"policy") {
-        Ok(Word::Policy)
-    } else if is(text, b"object") {
-        Ok(Word::Object)
-    } else if is(text, b"session") {
-        Ok(Word::Session)
-    } else if is(text, b"read") {
-        Ok(Word::Request(Kind::Read))
-    } else if is(text, b"write") {
-        Ok(Word::Request(Kind::Write))
-    } else if is(text, b"both") {
-        Ok(Word::Request(Kind::Both))
-    } else if is(text, b"close") {
-        Ok(Word::Close)
-    } else {
-        Err(FieldCause::Word)
+    ghost try_from_gives = { λ text read. read ≡ word_of text.now };
+
+    #[tactic(auto, unfolding(crate::specs::Words::says))]
+    fn try_from(text: &[u8]) -> Result<Word, FieldCause> {
+        match text {
+            b"policy" => Ok(Word::Policy),
+            b"object" => Ok(Word::Object),
+            b"session" => Ok(Word::Session),
+            b"read" => Ok(Word::Request(Kind::Read)),
+            b"write" => Ok(Word::Request(Kind::Write)),
+            b"both" => Ok(Word::Request(Kind::Both)),
+            b"close" => Ok(Word::Close),
+            _ => Err(FieldCause::Word),
+        }
     }
 }
 
-pub(crate) fn read_policy_name(text: &[u8]) -> Result<PolicyName, FieldCause>
-    ensures { result ≡ policy_of text.now }
-{
-    if is(text, b"confidentiality") {
-        Ok(PolicyName::Confidentiality)
-    } else if is(text, b"integrity") {
-        Ok(PolicyName::Integrity)
-    } else {
-        Err(FieldCause::Word)
+impl TryFrom<&[u8]> for PolicyName {
+    type Error = FieldCause;
+
+    ghost try_from_gives = { λ text read. read ≡ policy_of text.now };
+
+    #[tactic(auto, using(crate::proofs::Spelling::policy_names), unfolding(crate::specs::Words::says))]
+    fn try_from(text: &[u8]) -> Result<PolicyName, FieldCause> {
+        match text {
+            b"confidentiality" => Ok(PolicyName::Confidentiality),
+            b"integrity" => Ok(PolicyName::Integrity),
+            _ => Err(FieldCause::Word),
+        }
     }
 }
