@@ -41,7 +41,7 @@ start_answer model (Ok (Policy p)) = Err refused.OutOfPlace
 start_answer model (Ok (Object l)) = Err refused.OutOfPlace
 start_answer model (Ok (Session c s)) =
     and_then (label_in c) (λ c. and_then (label_in s) (λ s. answer {A = Unit {0}} (λ _. tt) (refused_as (λ f. refused.Call (from_start f)) (model.start c s))))
-start_answer model (Ok (Request k s o)) = Err (refused.Call NotEnrolled)
+start_answer model (Ok (Request r)) = Err (refused.Call NotEnrolled)
 start_answer model (Ok (Close s)) = Err (refused.Call NotEnrolled)
 
 -- what a line comes to: nothing yet, where it starts the first session

@@ -36,7 +36,7 @@ module _ {M : Type 0} (model : Model GradeLabel M) (v : View GradeLabel M) where
   serve_answer (Policy p) = Err refused.OutOfPlace
   serve_answer (Object l) = Err refused.OutOfPlace
   serve_answer (Session c s) = and_then (label_in c) (λ c. and_then (label_in s) (λ s. by_call answered.Session refused.Call (enrol_answer model v c s)))
-  serve_answer (Request k s o) = by_call (λ d. answered.Decided d.0 d.1) refused.Call (request_answer model v (record { session = s; object = o; kind = k }))
+  serve_answer (Request r) = by_call (λ d. answered.Decided d.0 d.1) refused.Call (request_answer model v r)
   serve_answer (Close s) = by_call (λ _. answered.Closed s) refused.Call (close_answer model v s)
 
   -- and the monitor after it
@@ -44,7 +44,7 @@ module _ {M : Type 0} (model : Model GradeLabel M) (v : View GradeLabel M) where
   serve_after (Policy p) = v
   serve_after (Object l) = v
   serve_after (Session c s) = with_labels c s (enrol_after model v) v
-  serve_after (Request k s o) = request_after model v (record { session = s; object = o; kind = k })
+  serve_after (Request r) = request_after model v r
   serve_after (Close s) = close_after model v s
 
   -- the same of a line, which may be no record

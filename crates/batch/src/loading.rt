@@ -47,7 +47,7 @@ fn check_start<P: Policy<Label = GradeLabel>>(
             P::start(clearance?, start?).map_err(Refusal::from)?;
             Ok(())
         }
-        Record::Request { .. } | Record::Close(_) => Err(BatchRefusal::Call(Refusal::NotEnrolled)),
+        Record::Request(_) | Record::Close(_) => Err(BatchRefusal::Call(Refusal::NotEnrolled)),
     }
 }
 

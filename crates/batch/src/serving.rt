@@ -12,7 +12,6 @@ use labels::GradeLabel;
 use monitor::Monitor;
 use policies::Policy;
 use records::{Record, read_record};
-use reference::Request;
 use std::alloc::AllocError;
 
 // Carries out a record.
@@ -26,16 +25,8 @@ fn serve<P: Policy<Label = GradeLabel>>(monitor: &mut Monitor<'_, P>, record: Re
             let session = monitor.enrol(clearance?, start?)?;
             Ok(Answer::Session(session))
         }
-        Record::Request {
-            kind,
-            session,
-            object,
-        } => {
-            let (verdict, place) = monitor.request(Request {
-                session,
-                object,
-                kind,
-            })?;
+        Record::Request(request) => {
+            let (verdict, place) = monitor.request(request)?;
             Ok(Answer::Decided(verdict, place))
         }
         Record::Close(session) => {
