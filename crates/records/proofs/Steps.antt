@@ -1,8 +1,9 @@
 -- The steps of the fields' readers, over lists.
-use Rattle.std.proofs.Common.{◌≡◌, ℕ, zero, suc, ◌+◌, ◌*◌, ◌/◌, ◌<◌, ◌≤◌, cond, ltb, ◌⊎◌, inl, inr, List, [], ◌∷◌, ◌++◌, length, get_or, take, drop, Some, None, Option, Ok, Err, Result, refl, ap, ◌∙◌, arith, length-drop}
-use Rattle.std.specs.List.{position, position_or_len}
+use Rattle.std.proofs.Common.{◌≡◌, ℕ, zero, suc, ◌+◌, ◌*◌, ◌/◌, ◌<◌, ◌≤◌, ◌⊎◌, inl, inr, List, [], ◌∷◌, ◌++◌, length, get_or, take, drop, Some, None, Option, Ok, Err, Result, refl, sym, ap, ◌∙◌, arith, length-drop}
+use Rattle.std.specs.List.{position, position_from}
 use Rattle.std.specs.Result.{MatchResult}
 use Rattle.std.specs.Simd.{first_chunks}
+use Rattle.std.proofs.lemmas.Iterator.Adapters.{position_from-zero}
 use Rattle.std.proofs.lemmas.List.{drop_more, drop-drop}
 use Rattle.std.proofs.lemmas.Bool.{cases_Bool}
 use Rattle.std.proofs.lemmas.Bool.Decides.{nat_tests}
@@ -18,15 +19,12 @@ pub digits_stop : (v i : ℕ) (xs : List ℕ) → i < length xs → (i ≡ 5) �
 digits_stop v i xs h w = rw (drop_more xs i 0 h) (grind (arith, nat_tests))
 
 -- the search for a stray octet
-pub stray_from-position : (i : ℕ) (xs : List ℕ) → stray_from i xs ≡ cond (ltb (position_or_len stray xs) (length xs)) (Some (i + position_or_len stray xs)) None
-stray_from-position i [] = refl
-stray_from-position i (c ∷ cs) = elim (cases_Bool (stray c)) [
-  | inl e ↦ rw e (grind (arith, nat_tests))
-  | inr e ↦ rw (e, stray_from-position (i + 1) cs) (grind (arith, nat_tests))
-]
+stray_is : (i : ℕ) (xs : List ℕ) → stray_from i xs ≡ position_from stray i xs
+stray_is i [] = refl
+stray_is i (c ∷ cs) = rw (stray_is (i + 1) cs)
 
 pub position_stray : (xs : List ℕ) → stray_from 0 xs ≡ position stray xs
-position_stray xs = rw (stray_from-position 0 xs) (grind arith)
+position_stray xs = stray_is 0 xs ∙ sym (position_from-zero stray xs)
 
 -- the pairs of digits
 pairs_at : (k i : ℕ) (xs : List ℕ) → i < k → get_or (first_chunks 2 k xs) i [] ≡ take 2 (drop (2 * i) xs)

@@ -60,23 +60,25 @@ fn request_record(kind: Kind, session: &[u8], object: &[u8]) -> Result<Record, F
 fn with_one(word: Word, field: &[u8]) -> Result<Record, RecordCause>
     ensures { result ≡ with_one word field.now }
 {
-    match word {
-        Word::Policy => Ok(policy_record(field)?),
-        Word::Object => Ok(Record::Object(label_field(field, 1)?)),
-        Word::Close => Ok(Record::Close(number_field(field, 1)?)),
-        Word::Session | Word::Request(_) => Err(RecordCause::FieldCount),
-    }
+    let record = match word {
+        Word::Policy => policy_record(field)?,
+        Word::Object => Record::Object(label_field(field, 1)?),
+        Word::Close => Record::Close(number_field(field, 1)?),
+        Word::Session | Word::Request(_) => return Err(RecordCause::FieldCount),
+    };
+    Ok(record)
 }
 
 // A record of a word and two fields more.
 fn with_two(word: Word, first: &[u8], second: &[u8]) -> Result<Record, RecordCause>
     ensures { result ≡ with_two word first.now second.now }
 {
-    match word {
-        Word::Session => Ok(session_record(first, second)?),
-        Word::Request(kind) => Ok(request_record(kind, first, second)?),
-        Word::Policy | Word::Object | Word::Close => Err(RecordCause::FieldCount),
-    }
+    let record = match word {
+        Word::Session => session_record(first, second)?,
+        Word::Request(kind) => request_record(kind, first, second)?,
+        Word::Policy | Word::Object | Word::Close => return Err(RecordCause::FieldCount),
+    };
+    Ok(record)
 }
 
 // A record of its fields: a word, and one or two more.
