@@ -6,6 +6,7 @@ ghost use Rattle.access_log.specs.Places.{places_of, next_place};
 use reference::{Entry, Refusal};
 use std::marker::Model;
 
+// A count beside a lent slice, as the project wants it: no heap, and the part from the first free place on is lent out.
 /// A log: the first `used` of the places hold its entries, the oldest first.
 #[derive(Drop)]
 pub struct Log<'a> {

@@ -62,6 +62,7 @@ impl From<Refusal> for BatchRefusal {
     }
 }
 
+// Numbers, since a batch's output is written with them.
 const OUT_OF_PLACE: u8 = 11;
 
 const NO_PLACE: u8 = 5;

@@ -22,7 +22,7 @@ fn choose(line: &[u8]) -> Result<PolicyName, BatchRefusal>
 }
 
 impl Run<'_> {
-    // Takes the lines that are left, under the policy of this name.
+    // Takes the lines that are left, under the policy of this name. A match, since a policy is a type.
     fn follow(self, name: PolicyName) -> Result<Vec<u8>, AllocError>
         ensures { IfOk result (λ out. out.items ≡ finished (under name) self.entry) }
     {

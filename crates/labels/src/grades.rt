@@ -31,6 +31,7 @@ fn octets<const N: usize>(map: &[u8], from: usize) -> [u8; N]
 }
 
 impl GradeLabel {
+    // Of two values, and `to_map` of a part of one: `From` says neither.
     /// The label of a grade and a map. Octets that the map lacks are empty, and those past the thirtieth do not count.
     pub fn from_map(grade: u8, map: &[u8]) -> GradeLabel
         ensures { result ≡ label_of grade map.now }
@@ -86,6 +87,7 @@ impl LabelOrder for GradeLabel {
             & (self.map28 & other.map28 == other.map28)
     }
 
+    // Field by field here, in `meet` and in the ends: the fields have four widths, and a closure takes one.
     fn join(self, other: GradeLabel) -> GradeLabel {
         GradeLabel {
             map0: self.map0 | other.map0,

@@ -6,6 +6,7 @@ ghost use Rattle.labels.specs.RivalLattice.{rivals};
 
 use orders::LabelOrder;
 
+// Numbers and no enum of none, brokers and conflict: the project wants a class to be any octet.
 const NONE: u8 = 0;
 
 const CONFLICT: u8 = 251;
@@ -32,6 +33,7 @@ pub struct UnknownBroker {
 }
 
 impl UnknownBroker {
+    // A number, since a batch's output is written with it.
     /// The number by which the refusal is known.
     pub fn number(self) -> u8
         ensures { result ≡ 12 }

@@ -17,6 +17,7 @@ pub struct SessionRow<M> {
     pub state: SessionState,
 }
 
+// A count beside a lent slice, as the project wants it: no heap, and rows written whole.
 /// The first `enrolled` of the rows are those of the sessions, by their numbers. Rows are not reused.
 #[derive(Drop)]
 pub struct SessionTable<'a, M> {

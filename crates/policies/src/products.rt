@@ -31,6 +31,7 @@ impl<P: Policy, Q: Policy> Policy for Product<P, Q> {
 
     ghost meaning = { product_meaning P.Policy.meaning Q.Policy.meaning };
 
+    // Three tests alike: one function over both parts' tests would have to say where it never asks the second.
     fn may_flow(from: Pair<P::Label, Q::Label>, to: Pair<P::Label, Q::Label>) -> bool {
         P::may_flow(from.first, to.first) && Q::may_flow(from.second, to.second)
     }

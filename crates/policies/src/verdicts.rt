@@ -33,6 +33,7 @@ pub enum Verdict {
     History,
 }
 
+// No flag with a value beside it: there are marks after every verdict.
 /// A verdict, and the marks that stand after it.
 #[derive(Clone, Copy)]
 pub struct Decision<M> {
@@ -47,6 +48,7 @@ pub enum StartRefusal {
     NotDominated,
 }
 
+// Apart from `StartRefusal`, so that a signature says which of the two may come.
 /// Why a request is not decided.
 #[derive(Clone, Copy, PartialEq, Eq, Debug)]
 pub enum DecideRefusal {

@@ -12,6 +12,7 @@ pub struct Request {
     pub kind: Kind,
 }
 
+// Flat: with a `Request` inside, an entry would take 32 octets of the log for 24.
 /// A request that was decided, with its verdict.
 #[derive(Clone, Copy, PartialEq, Eq, Debug)]
 pub struct Entry {

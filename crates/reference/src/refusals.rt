@@ -24,6 +24,7 @@ pub enum Refusal {
 }
 
 impl Refusal {
+    // A number, since a batch's output is written with it.
     /// The number by which the refusal is known.
     pub fn number(self) -> u8
         ensures { result ≡ number self }

@@ -13,6 +13,8 @@ use std::marker::PhantomData;
 /// Names the policy of integrity over an order; no value of it is made.
 pub struct Integrity<O>(PhantomData<O>);
 
+// Beside secrecy and not made of it: the two differ in each call, and a reversed policy that keeps other marks would take
+// more types than there are policies.
 impl<O: LabelOrder> Policy for Integrity<O> {
     type Label = O;
 
