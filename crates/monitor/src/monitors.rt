@@ -48,10 +48,10 @@ impl<'a, P: Policy> Monitor<'a, P> {
         let object_count = objects.len().min(OBJECT_LIMIT);
         let row_count = rows.len().min(ROW_LIMIT);
         let place_count = places.len().min(PLACE_LIMIT);
-        let sessions = SessionTable::new(&mut rows[0..row_count]);
-        let log = Log::new(&mut places[0..place_count]);
+        let sessions = SessionTable::new(&mut rows[..row_count]);
+        let log = Log::new(&mut places[..place_count]);
         Monitor {
-            objects: &objects[0..object_count],
+            objects: &objects[..object_count],
             sessions,
             log,
         }
