@@ -25,6 +25,7 @@ pub(crate) fn decode(text: &[u8], out: &mut [u8]) -> Result<usize, Base16Fault>
     for (i, [high, low]) in pairs.iter().enumerate() {
         let upper = hex_digit(*high).ok_or(Base16Fault { octet: 2 * i })?;
         let lower = hex_digit(*low).ok_or(Base16Fault { octet: 2 * i + 1 })?;
+        // By index: what is written through a `zip` of the places is not known after the loop.
         out[i] = upper * 16 + lower;
     }
     if !rest.is_empty() {
