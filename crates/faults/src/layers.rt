@@ -12,6 +12,7 @@ pub struct NumberFault {
     pub octet: usize,
 }
 
+// Apart from `NumberFault` and `TagFault`, so that `?` knows the cause by the type.
 /// The octet of a text of Base 16 digits that is wrong.
 #[derive(Clone, Copy, PartialEq, Eq, Debug)]
 pub struct Base16Fault {
@@ -46,6 +47,7 @@ pub enum RecordCause {
     Field(FieldFault),
 }
 
+// Apart from `FieldFault`: the project names the fault of each layer.
 /// A record that is wrong, by its place in the input: the first is 1.
 #[derive(Clone, Copy, PartialEq, Eq, Debug)]
 pub struct RecordFault {
@@ -63,6 +65,7 @@ impl FieldCause {
 }
 
 impl FieldFault {
+    // A number, since a batch's output is written with it.
     /// The number of the refusal that the fault stands for.
     pub fn number(self) -> u8
         ensures { result ≡ field_refusal self }

@@ -14,6 +14,7 @@ pub fn read_number(text: &[u8]) -> Result<usize, NumberFault>
     if let [] | [b'0', _, ..] = text {
         return Err(NumberFault { octet: 0 });
     }
+    // A loop and no `try_fold`, of which two goals stayed open: that the value fits, and what it is.
     let mut value = 0usize;
     for (i, octet) in text.iter().enumerate() {
         if i == MOST_DIGITS || !octet.is_ascii_digit() {

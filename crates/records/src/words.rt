@@ -21,7 +21,7 @@ impl TryFrom<&[u8]> for Word {
 
     ghost try_from_gives = { λ text read. read ≡ word_of text.now };
 
-    #[tactic(auto, unfolding(crate::specs::Words::says))]
+    #[tactic(auto, using(crate::proofs::Spelling::long_words), unfolding(crate::specs::Words::says))]
     fn try_from(text: &[u8]) -> Result<Word, FieldCause> {
         match text {
             b"policy" => Ok(Word::Policy),
