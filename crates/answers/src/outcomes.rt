@@ -62,7 +62,7 @@ impl From<Refusal> for BatchRefusal {
     }
 }
 
-// Numbers, since a batch's output is written with them.
+// Numbers, since the project lists its refusals by numbers.
 const OUT_OF_PLACE: u8 = 11;
 
 const NO_PLACE: u8 = 5;

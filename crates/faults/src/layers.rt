@@ -65,7 +65,7 @@ impl FieldCause {
 }
 
 impl FieldFault {
-    // A number, since a batch's output is written with it.
+    // A number, since the project lists its refusals by numbers.
     /// The number of the refusal that the fault stands for.
     pub fn number(self) -> u8
         ensures { result ≡ field_refusal self }

@@ -33,7 +33,7 @@ pub struct UnknownBroker {
 }
 
 impl UnknownBroker {
-    // A number, since a batch's output is written with it.
+    // A number, since the project lists its refusals by numbers.
     /// The number by which the refusal is known.
     pub fn number(self) -> u8
         ensures { result ≡ 12 }

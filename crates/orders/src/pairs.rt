@@ -48,7 +48,7 @@ impl<A: LabelOrder, B: LabelOrder> LabelOrder for Pair<A, B> {
         self.by_part(other, A::meet, B::meet)
     }
 
-    // Like `high` but for the ends that it names: a function over both would say no less.
+    // Beside `high`, from which it differs in what it names: a function over both would be as long.
     fn low() -> Pair<A, B> {
         Pair {
             first: A::low(),

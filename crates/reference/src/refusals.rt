@@ -24,7 +24,7 @@ pub enum Refusal {
 }
 
 impl Refusal {
-    // A number, since a batch's output is written with it.
+    // A number, since the project lists its refusals by numbers.
     /// The number by which the refusal is known.
     pub fn number(self) -> u8
         ensures { result ≡ number self }

@@ -81,10 +81,10 @@ fn read_list(grade: u8, list: &[u8]) -> Result<GradeLabel, TagFault>
 pub fn read_tag(input: &[u8]) -> Result<(GradeLabel, usize), TagFault>
     ensures { result ≡ tag_of input.now }
 {
-    let [first, ..] = input else {
+    let [kind, ..] = input else {
         return Err(TagFault { octet: 0 });
     };
-    let tag_type = TagType::try_from(*first)?;
+    let tag_type = TagType::try_from(*kind)?;
     let [_, length, zero, grade, rest @ ..] = input else {
         return Err(TagFault { octet: 1 });
     };
