@@ -78,6 +78,7 @@ impl FieldFault {
 }
 
 impl RecordCause {
+    // A number, since the project lists its refusals by numbers.
     /// The number of the refusal that the cause stands for.
     pub fn number(self) -> u8
         ensures { result ≡ refusal_number self }

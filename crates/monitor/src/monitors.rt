@@ -36,6 +36,7 @@ impl<'a, P: Policy> Model for Monitor<'a, P> {
 }
 
 impl<'a, P: Policy> Monitor<'a, P> {
+    // Three slices and no struct of them, since a caller lends each on its own, as the project names them.
     /// A monitor with no session and no entry, whatever the slices hold. It uses the first 4,096 objects, 1,024 rows
     /// and 65,536 places where there are more.
     pub fn new(

@@ -23,6 +23,7 @@ pub struct Entry {
 }
 
 impl Entry {
+    // Of two values, which `From` would want as a pair.
     /// The entry of a request with its verdict.
     pub fn new(request: Request, verdict: Verdict) -> Entry
         ensures { result ≡ entry request verdict }
