@@ -1,5 +1,5 @@
 //! The grade order: a grade, and a set of categories.
-ghost use Rattle.std.specs.Prelude.{◌≡◌, ◌+◌, ◌<◌, Decides};
+ghost use Rattle.std.specs.Prelude.{◌≡◌, ◌+◌, ◌≤◌, Decides};
 ghost use Rattle.labels.specs.Map.{AreOctets, map_of, label_of, has};
 ghost use Rattle.labels.specs.Grade.{grade_order, Covers};
 ghost use Rattle.labels.specs.GradeLattice.{grades};
@@ -24,14 +24,14 @@ pub struct GradeLabel {
 
 // The octets of a map from a place on. Past the map's end every octet is empty.
 fn octets<const N: usize>(map: &[u8], from: usize) -> [u8; N]
-    requires { from + N < 64 }
+    requires { from + N ≤ 32 }
     ensures { AreOctets map.now from N result }
 {
     array::from_fn(|at| map.get(from + at).copied().unwrap_or(0))
 }
 
 impl GradeLabel {
-    // Of two values, and `to_map` of a part of one: `From` says neither.
+    // `From` takes one value, and this takes two.
     /// The label of a grade and a map. Octets that the map lacks are empty, and those past the thirtieth do not count.
     pub fn from_map(grade: u8, map: &[u8]) -> GradeLabel
         ensures { result ≡ label_of grade map.now }
@@ -46,6 +46,7 @@ impl GradeLabel {
         }
     }
 
+    // `From` would give the whole label, and this gives a part.
     /// The map of the label's categories.
     #[tactic(auto, unfolding(crate::specs::Map::map_of))]
     pub fn to_map(self) -> [u8; 30]
@@ -87,7 +88,7 @@ impl LabelOrder for GradeLabel {
             & (self.map28 & other.map28 == other.map28)
     }
 
-    // Field by field here, in `meet` and in the ends: the fields have four widths, and a closure takes one.
+    // Field by field, here and in `meet`: the fields have four widths, and a closure takes one.
     fn join(self, other: GradeLabel) -> GradeLabel {
         GradeLabel {
             map0: self.map0 | other.map0,
@@ -111,25 +112,11 @@ impl LabelOrder for GradeLabel {
     }
 
     fn low() -> GradeLabel {
-        GradeLabel {
-            map0: 0,
-            map8: 0,
-            map16: 0,
-            map24: 0,
-            map28: 0,
-            grade: 0,
-        }
+        GradeLabel::from_map(0, &[])
     }
 
     fn high() -> GradeLabel {
-        GradeLabel {
-            map0: u64::MAX,
-            map8: u64::MAX,
-            map16: u64::MAX,
-            map24: u32::MAX,
-            map28: u16::MAX,
-            grade: u8::MAX,
-        }
+        GradeLabel::from_map(u8::MAX, &[u8::MAX; 30])
     }
 
     fn attest(self) {}

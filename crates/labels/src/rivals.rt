@@ -107,15 +107,15 @@ fn class_dominates(a: u8, b: u8) -> bool
 }
 
 // The bound of two numbers of a class: the other where one is neutral, and the extreme where two others differ.
-fn class_bound(neutral: u8, extreme: u8, a: u8, b: u8) -> u8
-    ensures { result ≡ class_bound neutral extreme a b }
+fn class_bound<const NEUTRAL: u8, const EXTREME: u8>(a: u8, b: u8) -> u8
+    ensures { result ≡ class_bound NEUTRAL EXTREME a b }
 {
-    if a == neutral {
+    if a == NEUTRAL {
         b
-    } else if b == neutral || a == b {
+    } else if b == NEUTRAL || a == b {
         a
     } else {
-        extreme
+        EXTREME
     }
 }
 
@@ -136,11 +136,11 @@ impl LabelOrder for RivalLabel {
     }
 
     fn join(self, other: RivalLabel) -> RivalLabel {
-        self.by_class(other, |a, b| class_bound(NONE, CONFLICT, a, b))
+        self.by_class(other, class_bound::<NONE, CONFLICT>)
     }
 
     fn meet(self, other: RivalLabel) -> RivalLabel {
-        self.by_class(other, |a, b| class_bound(CONFLICT, NONE, a, b))
+        self.by_class(other, class_bound::<CONFLICT, NONE>)
     }
 
     fn low() -> RivalLabel {

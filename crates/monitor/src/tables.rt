@@ -37,6 +37,13 @@ impl<'a, M> Model for SessionTable<'a, M> {
     ghost invariant = { Within };
 }
 
+// The row of a session, among those that are in use.
+fn row_at<M: Copy>(rows: &[SessionRow<M>], session: usize) -> Result<SessionRow<M>, Refusal>
+    ensures { result ≡ ok_or (slice_get rows.now session) refusal.NotEnrolled }
+{
+    rows.get(session).copied().ok_or(Refusal::NotEnrolled)
+}
+
 fn put_row<M: Copy>(rows: &mut [SessionRow<M>], at: usize, row: SessionRow<M>)
     requires { at < length rows.old }
     ensures { rows.new ≡ slice_set rows.old at row }
@@ -58,10 +65,7 @@ impl<'a, M: Copy> SessionTable<'a, M> {
     pub(crate) fn row(&self, session: usize) -> Result<SessionRow<M>, Refusal>
         ensures { result ≡ ok_or (slice_get self.now.sessions session) refusal.NotEnrolled }
     {
-        self.rows[..self.enrolled]
-            .get(session)
-            .copied()
-            .ok_or(Refusal::NotEnrolled)
+        row_at(&self.rows[..self.enrolled], session)
     }
 
     /// The marks of an open session, which is one that is enrolled.

@@ -21,16 +21,16 @@ pub struct SixLabels<L> {
 
 impl<L: Copy> SixLabels<L> {
     // The labels of a session that starts, by those that its reads move and those that its writes move.
-    pub(crate) fn start(range: LabelRange<L>, read: L, written: L) -> SixLabels<L>
-        ensures { result ≡ started range read written }
+    pub(crate) fn start(range: LabelRange<L>, moved_by_reads: L, moved_by_writes: L) -> SixLabels<L>
+        ensures { result ≡ started range moved_by_reads moved_by_writes }
     {
         SixLabels {
             clearance: range.clearance,
             current: range.current,
-            in_low: read,
-            in_high: read,
-            out_low: written,
-            out_high: written,
+            in_low: moved_by_reads,
+            in_high: moved_by_reads,
+            out_low: moved_by_writes,
+            out_high: moved_by_writes,
         }
     }
 }

@@ -64,8 +64,8 @@ fn read_list(grade: u8, list: &[u8]) -> Result<GradeLabel, TagFault>
     let mut map = [0u8; 30];
     let mut least = 0u16;
     let (pairs, _) = list.as_chunks::<2>();
-    for (place, pair) in pairs.iter().enumerate() {
-        let category = u16::from_be_bytes(*pair);
+    for (place, [high, low]) in pairs.iter().enumerate() {
+        let category = u16::from_be_bytes([*high, *low]);
         if category < least || category > LAST_CATEGORY {
             return Err(TagFault {
                 octet: HEAD + 2 * place,
