@@ -1,5 +1,5 @@
 -- What the text of a field says: a number, or a label.
-use Rattle.std.specs.Prelude.{◌≡◌, ℕ, ◌+◌, ◌-◌, ◌*◌, ◌≤◌, Bool, cond, not, ◌&&◌, ◌||◌, List, [], ◌∷◌, ◌++◌, length, take, Some, None, Ok, Err, Option, Result, ◌==◌, nat_le, nat_lt, slice_index}
+use Rattle.std.specs.Prelude.{ℕ, ◌+◌, ◌-◌, ◌*◌, Bool, cond, not, ◌&&◌, ◌||◌, List, [], ◌∷◌, ◌++◌, length, Some, None, Ok, Err, Option, Result, ◌==◌, nat_le, nat_lt, slice_index}
 use Rattle.labels.specs.declared.grades.GradeLabel.{GradeLabel}
 use Rattle.tags.specs.Tag.{tag_of}
 use Rattle.faults.specs.declared.layers.NumberFault.{NumberFault}
@@ -43,10 +43,6 @@ base16 at done (a ∷ (b ∷ rest)) =
     cond (is_hex a)
     (cond (is_hex b) (base16 (at + 2) (done ++ ((hex_value a * 16 + hex_value b) ∷ [])) rest) (Err (record { octet = at + 1 })))
     (Err (record { octet = at }))
-
--- the first n octets of a buffer are those that a text stands for
-abbrev pub Decoded : List ℕ → List ℕ → ℕ → Type 0
-Decoded text out n = (n ≤ length out) × (base16 0 [] text ≡ Ok (take n out))
 
 -- the label of one tag that fills all octets
 abbrev pub only_tag : List ℕ → Result GradeLabel FieldCause

@@ -18,10 +18,8 @@ pub fn read_label(text: &[u8]) -> Result<GradeLabel, FieldCause>
     if text.len() > MOST_DIGITS {
         return Err(FieldCause::Base16(Base16Fault { octet: MOST_DIGITS }));
     }
-    // A buffer and a count: reading a record takes no memory that may be wanting.
-    let mut octets = [0u8; 128];
-    let count = decode(text, &mut octets)?;
-    only_tag(&octets[..count])
+    let octets = decode(text)?;
+    only_tag(octets.as_slice())
 }
 
 // The label of one tag that fills all octets.
