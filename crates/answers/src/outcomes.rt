@@ -81,7 +81,7 @@ impl BatchRefusal {
     }
 }
 
-// The word for what a policy decided.
+// The word for what a policy decided: the output's, and no way for a verdict to print itself.
 fn verdict_word(verdict: Verdict) -> &'static str
     ensures { result.now ≡ verdict_word verdict }
 {

@@ -36,6 +36,7 @@ impl Run<'_> {
     fn wait(mut self) -> Result<Vec<u8>, AllocError>
         ensures { IfOk result (λ out. out.items ≡ finished waiting self.entry) }
     {
+        // No `for`, since the body writes to the run whose line it takes.
         while let Some(line) = self.lines.next() {
             match choose(line.octets) {
                 Ok(name) => {

@@ -46,6 +46,7 @@ impl<'a> Iterator for Lines<'a> {
     fn next(&mut self) -> Option<Line<'a>> {
         let (octets, rest) = split_line(self.rest)?;
         self.rest = rest;
+        // Counted here and not by `enumerate`, so that a clause can name it.
         self.taken += 1;
         Some(Line {
             place: self.taken,

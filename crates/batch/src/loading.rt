@@ -77,6 +77,7 @@ impl Run<'_> {
         ensures { IfOk result (λ out. out.items ≡ finished (loading P.Policy.model blank_rows blank_places []) self.entry) }
     {
         let mut objects = Vec::new(self.heap);
+        // No `for`, since the body writes to the run whose line it takes.
         while let Some(line) = self.lines.next() {
             match load_line::<P>(&mut objects, line.octets)? {
                 Some(outcome) => self.put(line.place, outcome)?,

@@ -10,7 +10,6 @@ use std::alloc::{AllocError, Global};
 /// What a record came to.
 pub(crate) type Outcome = Result<Answer, BatchRefusal>;
 
-// Its loops are `while let` and not `for`, since their bodies write to the run whose lines they take.
 /// The lines of a batch that are left, and what was written for those before them.
 #[derive(Drop)]
 pub(crate) struct Run<'a> {

@@ -66,6 +66,7 @@ impl Run<'_> {
     ) -> Result<Vec<u8>, AllocError>
         ensures { IfOk result (λ out. out.items ≡ finished (serving P.Policy.model monitor.old) self.entry) }
     {
+        // No `for`, since the body writes to the run whose line it takes.
         while let Some(line) = self.lines.next() {
             self.serve_line(monitor, line)?;
         }

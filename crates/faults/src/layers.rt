@@ -56,6 +56,7 @@ pub struct RecordFault {
 }
 
 impl FieldCause {
+    // Beside `in_record`, since the project names the fault of each layer.
     /// The fault of a field that is wrong for this cause.
     pub fn in_field(self, field: usize) -> FieldFault
         ensures { result ≡ at_field field self }

@@ -10,6 +10,7 @@ ghost use Rattle.monitor.specs.Rows.{row, row_count, open_marks};
 use reference::{Refusal, SessionState};
 use std::marker::Model;
 
+// No flag with a value beside it: the marks of a closed session stay readable.
 /// The record of one session.
 #[derive(Clone, Copy)]
 pub struct SessionRow<M> {

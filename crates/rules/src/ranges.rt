@@ -62,7 +62,7 @@ impl<L: LabelOrder> LabelRange<L> {
         }
     }
 
-    // The floor after a read: it rises also where the current label stays.
+    // The floor after a read: it rises also where the current label stays. Beside `lowered`, a line that differs in both names.
     fn raised(self, label: L) -> L
         ensures { result ≡ L.order.join self.floor label }
     {
