@@ -1,9 +1,9 @@
 -- A table of which the first k are in use, and one more.
-use Rattle.std.proofs.Common.{◌≡◌, ℕ, ◌+◌, ◌-◌, ◌<◌, ◌≤◌, min, List, [], ◌∷◌, reverse, length, take, drop, set, Ok, sym, ap, ◌∙◌, ⊎_elim, add-one, arith}
+use Rattle.std.proofs.Common.{◌≡◌, ℕ, ◌+◌, ◌-◌, ◌<◌, min, List, [], ◌∷◌, reverse, length, take, drop, set, Ok, sym, ap, ◌∙◌, add-one, arith}
 use borrow.Rule.Slice.PartMut.{put_mid}
-use Rattle.std.proofs.lemmas.List.{length-take, length-drop, length-reverse, reverse-append, take_more_set, set_split, take_all, take_rest, drop_more, drop_all, append-nil, drop-set-lt, drop-drop}
+use Rattle.std.proofs.Math.Nat.{min_comm}
+use Rattle.std.proofs.lemmas.List.{take_min, length-take, length-drop, length-reverse, reverse-append, take_more_set, set_split, take_rest, drop_more, drop_all, append-nil, drop-set-lt, drop-drop}
 use Rattle.std.proofs.lemmas.Bool.Decides.{nat_tests}
-use Rattle.std.proofs.lemmas.Bool.{cases_lt}
 use Rattle.reference.specs.Results.{free}
 use Rattle.reference.specs.declared.refusals.Refusal.{Refusal}
 
@@ -33,7 +33,4 @@ module _ {X : Type 0} (xs ys : List X) (k : ℕ) (x : X) (h : k < length xs) (e 
 
 -- the part up to the table's end, or up to a limit
 pub take_at_most : {X : Type 0} (n m : ℕ) (xs : List X) → n ≡ min (length xs) m → take n xs ≡ take m xs
-take_at_most n m xs e =
-    ⊎_elim (λ (l : n < length xs). ap (λ k. take k xs) (omega arith))
-    (λ (l : length xs ≤ n). take_all n xs l ∙ sym (take_all m xs (omega arith)))
-    (cases_lt n (length xs))
+take_at_most n m xs e = ap (λ k. take k xs) (e ∙ min_comm (length xs) m) ∙ take_min m xs

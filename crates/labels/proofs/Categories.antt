@@ -1,5 +1,5 @@
 -- The categories of a label, bit by bit.
-use Rattle.std.proofs.Common.{◌≡◌, ℕ, zero, suc, ◌+◌, ◌-◌, ◌*◌, ◌/◌, ◌%◌, ◌^◌, ◌<◌, Bool, true, not, ◌&&◌, eqb, List, [], ◌∷◌, ◌++◌, get_or, sym, refl, ap, ◌∙◌, inl, inr, one-mul, zero-mul, arith}
+use Rattle.std.proofs.Common.{◌≡◌, ℕ, zero, suc, ◌+◌, ◌-◌, ◌*◌, ◌/◌, ◌%◌, ◌^◌, ◌<◌, Bool, true, not, ◌&&◌, eqb, List, ◌∷◌, ◌++◌, get_or, sym, refl, ap, ◌∙◌, inl, inr, one-mul, zero-mul, arith}
 use native.Mathlib.Nat.{div-div-eq-div-mul}
 use lib.Bits.{bit_and, and_high}
 use Rattle.std.proofs.lemmas.List.FromFn.{get_or-map-range_with_len}
@@ -10,7 +10,7 @@ use Rattle.std.proofs.lemmas.Bool.Decides.{nat_tests}
 use Rattle.labels.specs.Map.{map_of, label_of, has, in_map, eight, four, two}
 use Rattle.labels.specs.Grade.{Proper}
 use Rattle.labels.specs.declared.grades.GradeLabel.{GradeLabel}
-use Rattle.labels.proofs.Octets.{label_map, label_of_same, map_label, length_map}
+use Rattle.labels.proofs.Octets.{Octets, none, one_more, label_map, label_of_same, map_label, length_map}
 
 -- what a test passes at each number below n
 abbrev pub below : ℕ → (ℕ → Bool) → Bool
@@ -62,19 +62,8 @@ same_octet b c hb hc h =
     let x7 : b / 1 % 2 ≡ c / 1 % 2 = bit 7 (omega arith) in
     sym (octet_bits b hb) ∙ rw (x0, x1, x2, x3, x4, x5, x6, x7) (octet_bits c hc)
 
--- each octet of a map is one
-record Octets (xs : List ℕ) : Type 0 where
-  at : (k : ℕ) → get_or xs k 0 < 256
-
-no_octets : Octets []
-no_octets = record { at = λ k. omega arith }
-
-more_at : (x : ℕ) (xs : List ℕ) → x < 256 → ((k : ℕ) → get_or xs k 0 < 256) → (k : ℕ) → get_or (x ∷ xs) k 0 < 256
-more_at x xs h hs zero = h
-more_at x xs h hs (suc k) = hs k
-
 more : {xs : List ℕ} (w : ℕ) → Octets xs → Octets (w % 256 ∷ xs)
-more {xs} w o = record { at = more_at (w % 256) xs (omega arith) o.at }
+more w o = one_more (w % 256) (omega arith) o
 
 two_octets : (w : ℕ) {xs : List ℕ} → Octets xs → Octets (two w ++ xs)
 two_octets w o = more (w / 256) (more w o)
@@ -89,7 +78,7 @@ eight_octets w o =
 map_all : (l : GradeLabel) → Octets (map_of l)
 unfolding map_of
 map_all l =
-    eight_octets l.map0 (eight_octets l.map8 (eight_octets l.map16 (four_octets l.map24 (two_octets l.map28 no_octets))))
+    eight_octets l.map0 (eight_octets l.map8 (eight_octets l.map16 (four_octets l.map24 (two_octets l.map28 none))))
 
 pub map_octets : (l : GradeLabel) (k : ℕ) → get_or (map_of l) k 0 < 256
 map_octets l = (map_all l).at
