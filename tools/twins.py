@@ -45,7 +45,8 @@ def shape(source):
             tokens.append("operator")
         else:
             tokens.append(token)
-    return tuple(tokens)
+    # A comma that ends a list says nothing.
+    return tuple(token for token, after in zip(tokens, tokens[1:] + [""]) if not (token == "," and after in ("}", ")", "]")))
 
 
 groups = {}

@@ -56,7 +56,7 @@ fn request_record(kind: Kind, session: &[u8], object: &[u8]) -> Result<Record, F
     }))
 }
 
-// A record of a word and one field more.
+// A record of a word and one field more. By a match, here and for two fields, so that no word is left out.
 fn with_one(word: Word, field: &[u8]) -> Result<Record, RecordCause>
     ensures { result ≡ with_one word field.now }
 {
