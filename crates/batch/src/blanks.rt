@@ -20,7 +20,7 @@ const BLANK_ENTRY: Entry = Entry {
     verdict: Verdict::History,
 };
 
-// Six times a label, as in the tests' rows: a function of it could not be wrong, so that no edit would try it.
+// The label six times, as in the tests' rows: a function of one label has nothing to get wrong, and no edit could try it.
 fn blank_row() -> SessionRow<SixLabels<GradeLabel>>
     ensures { result ≡ blank_row }
 {

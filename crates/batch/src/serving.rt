@@ -14,7 +14,7 @@ use policies::Policy;
 use records::{Record, read_record};
 use std::alloc::AllocError;
 
-// Carries out a record. By a match, so that none is left out.
+// Carries out a record. By a match, so that no record is left out.
 fn serve<P: Policy<Label = GradeLabel>>(monitor: &mut Monitor<'_, P>, record: Record) -> Outcome
     ensures answer { result ≡ serve_answer P.Policy.model monitor.old «record» }
     ensures after { monitor.new ≡ serve_after P.Policy.model monitor.old «record» }

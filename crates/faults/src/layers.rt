@@ -101,6 +101,7 @@ impl RecordCause {
     }
 }
 
+// A conversion for each cause: a derived one has no contract.
 impl From<NumberFault> for FieldCause {
     ghost from_gives = { λ f r. r ≡ Number f };
 

@@ -62,6 +62,7 @@ impl GradeLabel {
     }
 
     /// Whether the label has the category: none above 239.
+    #[tactic(auto, using(crate::proofs::Categories::bit_of))]
     pub fn has(self, category: u8) -> bool
         ensures { result ≡ has self category }
     {
@@ -76,6 +77,7 @@ impl LabelOrder for GradeLabel {
 
     ghost lattice = { grades };
 
+    #[tactic(auto, using(crate::proofs::Coverage::covers), unfolding(crate::specs::Sets::contains))]
     fn dominates(self, other: GradeLabel) -> bool
         ensures answer { result ≡ grade_order.dominance self other }
         ensures covers { Decides result (Covers self other) }

@@ -11,6 +11,7 @@ const NONE: u8 = 0;
 
 const CONFLICT: u8 = 251;
 
+// Eight fields and no array: the project fixes the form of the label.
 /// Whose information something is, in each of eight classes of rivals: 0 is nobody's, 1 to 250 that of one broker, and
 /// 251 conflict, that of more than one. Every value is a label: 252 to 255 are taken as brokers, which `try_from` never
 /// lets in.

@@ -28,7 +28,7 @@ pub trait Policy {
     fn write_admits(clearance: Self::Label, label: Self::Label) -> bool
         ensures { result ≡ model.write_admits clearance label };
 
-    // Here two labels side by side, and below a label and a kind: the project names each apart.
+    // Two labels side by side here, a label and a kind below: the project's calls name each on its own.
     /// The marks of a session of this clearance that starts at the label.
     fn start(clearance: Self::Label, label: Self::Label) -> Result<Self::Marks, StartRefusal>
         ensures { result ≡ model.start clearance label };

@@ -81,8 +81,8 @@ fn with_two(word: Word, first: &[u8], second: &[u8]) -> Result<Record, RecordCau
     Ok(record)
 }
 
-// A record of its fields: a word, and one or two more. By `field_at` and no iterator, since the project wants each field
-// handed out as a part of the line.
+// A record of its fields: a word, and one or two more. By `field_at`, which the project wants to hand out each field, and no
+// iterator over them.
 #[tactic(auto, using(crate::proofs::Splits::fields_by_field, crate::proofs::Splits::rest_by_field))]
 fn read_fields(line: &[u8]) -> Result<Record, RecordCause>
     requires { length line.now ≤ 256 }

@@ -42,6 +42,7 @@ pub(crate) fn blank_row<L: LabelOrder>() -> SessionRow<SixLabels<L>> {
     }
 }
 
+// The label six times, as in the batch's rows.
 pub(crate) fn blank_marks<L: LabelOrder>() -> SixLabels<L> {
     let low = L::low();
     SixLabels {

@@ -4,6 +4,7 @@ use Rattle.std.proofs.lemmas.List.Sorted.{answers_always}
 use Rattle.records.proofs.Pieces.{split_field}
 use Rattle.records.proofs.fields.field_at.Goals as goal
 
+-- the check alone leaves this goal open
 pub returns : goal.returns
 returns c =
     let got = c.in_ok-get.ensures.lookup.0 in

@@ -5,6 +5,7 @@ use Rattle.records.specs.Fields.{stray}
 use Rattle.records.proofs.Steps.{position_stray}
 use Rattle.records.proofs.reader.stray_octet.Goals as goal
 
+-- the check alone leaves this goal open
 pub returns : goal.returns
 returns c =
     let line = c.args.line.now in

@@ -3,6 +3,7 @@ use Rattle.access_log.proofs.Prefixes.{take_at_most}
 use Rattle.monitor.proofs.Views.{fresh_from}
 use Rattle.monitor.proofs.monitors.Monitor.new.Goals as goal
 
+-- the check alone leaves this goal open
 pub returns : goal.returns
 returns g c =
     fresh_from
