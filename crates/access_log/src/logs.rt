@@ -1,5 +1,5 @@
 //! The entries that were added to a lent slice of places.
-ghost use Rattle.std.specs.Prelude.{◌≡◌, ◌<◌, ◌≤◌, [], ◌∷◌, reverse, length, drop, slice_set};
+ghost use Rattle.std.specs.Prelude.{◌≡◌, ◌<◌, [], ◌∷◌, reverse, length, drop, slice_set};
 ghost use Rattle.reference.specs.Results.{answer, after};
 ghost use Rattle.access_log.specs.Places.{places_of, next_place};
 
@@ -19,7 +19,7 @@ impl<'a> Model for Log<'a> {
 
     ghost Value = { Places };
 
-    ghost use Rattle.access_log.specs.View.{lists_of, Within};
+    ghost use Rattle.access_log.specs.Lists.{lists_of, Within};
 
     ghost view = { lists_of };
 

@@ -1,4 +1,4 @@
 pub mod Rows
-pub mod Table
+pub mod TableRows
 pub mod View
-pub mod Viewed
+pub mod MonitorView

@@ -1,8 +1,5 @@
 //! The monitor: decides each request by the session's marks, and logs the verdict.
 ghost use Rattle.std.specs.Prelude.{◌≡◌, reverse};
-ghost use Rattle.std.specs.List.{slice_get};
-ghost use Rattle.std.specs.Option.{ok_or};
-ghost use Rattle.reference.specs.declared.refusals.Refusal.TheVariants as refusal;
 ghost use Rattle.monitor.specs.View.{made_over, judging, enrol_answer, enrol_after, request_answer, request_after, close_answer, close_after, row_answer};
 
 use crate::tables::{SessionRow, SessionTable};
@@ -30,7 +27,7 @@ impl<'a, P: Policy> Model for Monitor<'a, P> {
 
     ghost Value = { View P.Label P.Marks };
 
-    ghost use Rattle.monitor.specs.Viewed.{view_of};
+    ghost use Rattle.monitor.specs.MonitorView.{view_of};
 
     ghost view = { view_of };
 }

@@ -1,5 +1,5 @@
 //! The session table: one container for the marks of every policy.
-ghost use Rattle.std.specs.Prelude.{◌≡◌, ◌<◌, [], ◌∷◌, ◌++◌, length, take, drop, slice_set, IfOk};
+ghost use Rattle.std.specs.Prelude.{◌≡◌, ◌<◌, [], ◌∷◌, ◌++◌, length, drop, slice_set, IfOk};
 ghost use Rattle.std.specs.List.{slice_get};
 ghost use Rattle.std.specs.Option.{ok_or};
 ghost use Rattle.reference.specs.Results.{free};
@@ -31,7 +31,7 @@ impl<'a, M> Model for SessionTable<'a, M> {
 
     ghost Value = { Rows M };
 
-    ghost use Rattle.monitor.specs.Table.{rows_of, Within};
+    ghost use Rattle.monitor.specs.TableRows.{rows_of, Within};
 
     ghost view = { rows_of };
 

@@ -1,6 +1,6 @@
 //! The words of a record.
 ghost use Rattle.std.specs.Prelude.{◌≡◌};
-ghost use Rattle.records.specs.Words.{says, word_of, policy_of};
+ghost use Rattle.records.specs.Words.{word_of, policy_of};
 
 use crate::values::PolicyName;
 use faults::FieldCause;

@@ -36,13 +36,13 @@ impl TryFrom<u8> for TagType {
     }
 }
 
-// The length of a whole tag, by its second octet, where so much of the input is left.
-fn tag_length(tag_type: TagType, octet: u8, left: usize) -> Result<usize, TagFault>
-    ensures { result ≡ length_of tag_type octet left }
+// The length of a whole tag, by its second octet, in an input of this length.
+fn tag_length(tag_type: TagType, octet: u8, input: usize) -> Result<usize, TagFault>
+    ensures { result ≡ length_of tag_type octet input }
 {
     let whole = usize::from(octet);
     let odd = tag_type == TagType::List && whole % 2 == 1;
-    if whole < HEAD || whole > LONGEST || whole > left || odd {
+    if whole < HEAD || whole > LONGEST || whole > input || odd {
         return Err(TagFault { octet: 1 });
     }
     Ok(whole)
