@@ -6,7 +6,9 @@ ghost use Rattle.batch.specs.Lines.{FirstBreak, NoBreak, lines_of};
 fn line_end(input: &[u8]) -> Option<usize>
     ensures { MatchOption result (NoBreak input.now) (FirstBreak input.now) }
 {
-    input.array_windows().position(|pair| pair == b"\r\n")
+    input
+        .array_windows()
+        .position(|pair| matches!(pair, b"\r\n"))
 }
 
 /// The first line, without its CR LF, and what comes after it.

@@ -111,12 +111,10 @@ fn class_dominates(a: u8, b: u8) -> bool
 fn class_bound<const NEUTRAL: u8, const EXTREME: u8>(a: u8, b: u8) -> u8
     ensures { result ≡ class_bound NEUTRAL EXTREME a b }
 {
-    if a == NEUTRAL {
-        b
-    } else if b == NEUTRAL || a == b {
-        a
-    } else {
-        EXTREME
+    match (a, b) {
+        (number, other) | (other, number) if number == NEUTRAL => other,
+        _ if a == b => a,
+        _ => EXTREME,
     }
 }
 

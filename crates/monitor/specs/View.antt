@@ -1,5 +1,5 @@
 -- A monitor as plain lists, and what each call finds, answers and leaves.
-use Rattle.std.specs.Prelude.{ℕ, List, [], ◌∷◌, ◌++◌, length, take, drop, Ok, Result, slice_set}
+use Rattle.std.specs.Prelude.{◌≡◌, ℕ, ◌+◌, ◌^◌, ◌<◌, List, [], ◌∷◌, ◌++◌, length, take, drop, Ok, Result, slice_set}
 use Rattle.std.specs.List.{slice_get}
 use Rattle.std.specs.Option.{ok_or}
 use Rattle.policies.specs.Model.{Model}
@@ -26,6 +26,13 @@ pub record View (L M : Type 0) : Type 0 where
   pub history : List Entry
   pub spare : List (SessionRow M)
   pub blank : List Entry
+
+-- what every monitor's view has: each row is a session's or spare, each place an entry's or blank, and no more labels
+-- than a program can count
+pub record Counted {L M : Type 0} (v : View L M) : Type 0 where
+  pub rows : length v.sessions + length v.spare ≡ v.rows
+  pub places : length v.history + length v.blank ≡ v.places
+  pub labels : length v.labels < 2 ^ 64
 
 -- no session and no entry
 abbrev pub fresh : {L M : Type 0} → List L → List (SessionRow M) → List Entry → View L M

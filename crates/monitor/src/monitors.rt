@@ -1,6 +1,6 @@
 //! The monitor: decides each request by the session's marks, and logs the verdict.
 ghost use Rattle.std.specs.Prelude.{◌≡◌, reverse};
-ghost use Rattle.monitor.specs.View.{made_over, judging, enrol_answer, enrol_after, request_answer, request_after, close_answer, close_after, row_answer};
+ghost use Rattle.monitor.specs.View.{Counted, made_over, judging, enrol_answer, enrol_after, request_answer, request_after, close_answer, close_after, row_answer};
 
 use crate::tables::{SessionRow, SessionTable};
 use access_log::Log;
@@ -41,7 +41,8 @@ impl<'a, P: Policy> Monitor<'a, P> {
         rows: &'a mut [SessionRow<P::Marks>],
         places: &'a mut [Entry],
     ) -> Monitor<'a, P>
-        ensures { result ≡ made_over objects.now rows.old places.old }
+        ensures made { result ≡ made_over objects.now rows.old places.old }
+        ensures counted { Counted result }
     {
         let object_count = objects.len().min(OBJECT_LIMIT);
         let row_count = rows.len().min(ROW_LIMIT);
@@ -59,6 +60,8 @@ impl<'a, P: Policy> Monitor<'a, P> {
     pub fn enrol(&mut self, clearance: P::Label, start: P::Label) -> Result<usize, Refusal>
         ensures answer { result ≡ enrol_answer P.model self.old clearance start }
         ensures after { self.new ≡ enrol_after P.model self.old clearance start }
+        ensures counted_before { Counted self.old }
+        ensures counted { Counted self.new }
     {
         self.sessions.check_free()?;
         let marks = P::start(clearance, start)?;
@@ -81,6 +84,8 @@ impl<'a, P: Policy> Monitor<'a, P> {
     pub fn request(&mut self, request: Request) -> Result<(Verdict, usize), Refusal>
         ensures answer { result ≡ request_answer P.model self.old request }
         ensures after { self.new ≡ request_after P.model self.old request }
+        ensures counted_before { Counted self.old }
+        ensures counted { Counted self.new }
     {
         let decision = self.judge(request)?;
         let verdict = decision.verdict;
@@ -94,6 +99,8 @@ impl<'a, P: Policy> Monitor<'a, P> {
     pub fn close(&mut self, session: usize) -> Result<(), Refusal>
         ensures answer { result ≡ close_answer P.model self.old session }
         ensures after { self.new ≡ close_after P.model self.old session }
+        ensures counted_before { Counted self.old }
+        ensures counted { Counted self.new }
     {
         let marks = self.sessions.open_marks(session)?;
         self.sessions.put(session, marks, SessionState::Closed);
@@ -102,7 +109,8 @@ impl<'a, P: Policy> Monitor<'a, P> {
 
     /// The marks of a session, open or closed.
     pub fn row(&self, session: usize) -> Result<P::Marks, Refusal>
-        ensures { result ≡ row_answer P.model self.now session }
+        ensures answer { result ≡ row_answer P.model self.now session }
+        ensures counted { Counted self.now }
     {
         let found = self.sessions.row(session)?;
         Ok(found.marks)
@@ -110,7 +118,8 @@ impl<'a, P: Policy> Monitor<'a, P> {
 
     /// The entries of the log, the oldest first.
     pub fn entries(&self) -> &[Entry]
-        ensures { reverse result.now ≡ self.now.history }
+        ensures history { reverse result.now ≡ self.now.history }
+        ensures counted { Counted self.now }
     {
         self.log.entries()
     }

@@ -29,7 +29,7 @@ fields_step (c ∷ cs) =
           rw (e, fields_step cs, next, one-add) (ap (λ (fs : List (List ℕ)). (c ∷ take (prefix_len no_comma cs) cs) ∷ fs) (sym (rest_suc c cs (prefix_len no_comma cs + 1))))
     ]
 
-rest_all : (xs : List ℕ) → fields_of xs ≡ rest_from xs 0
+pub rest_all : (xs : List ℕ) → fields_of xs ≡ rest_from xs 0
 rest_all xs = let some : ltb (length xs) 0 ≡ false = le-ltb _ _ (omega arith) in rw some
 
 -- the rest of a rest

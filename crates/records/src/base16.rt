@@ -16,13 +16,13 @@ fn hex_digit(octet: u8) -> Option<u8>
     }
 }
 
-// The octets that pairs of digits stand for.
+// Puts the octets that pairs of digits stand for into a vector with none, which the caller makes: to hand it out would copy it.
 #[tactic(auto, using(crate::proofs::Steps::pair_read))]
-pub(crate) fn decode(text: &[u8]) -> Result<ArrayVec<u8, 128>, Base16Fault>
-    requires { length text.now ≤ 256 }
-    ensures { MatchResult result (λ octets. base16 0 [] text.now ≡ Ok octets.items) (λ f. base16 0 [] text.now ≡ Err f) }
+pub(crate) fn decode(text: &[u8], octets: &mut ArrayVec<u8, 128>) -> Result<(), Base16Fault>
+    requires fits { length text.now ≤ 256 }
+    requires none { octets.old.items ≡ [] }
+    ensures { MatchResult result (λ _. base16 0 [] text.now ≡ Ok octets.new.items) (λ f. base16 0 [] text.now ≡ Err f) }
 {
-    let mut octets = ArrayVec::new();
     let (pairs, rest) = text.as_chunks::<2>();
     for (i, [high, low]) in pairs.iter().enumerate() {
         let upper = hex_digit(*high).ok_or(Base16Fault { octet: 2 * i })?;
@@ -34,5 +34,5 @@ pub(crate) fn decode(text: &[u8]) -> Result<ArrayVec<u8, 128>, Base16Fault>
             octet: 2 * pairs.len(),
         });
     }
-    Ok(octets)
+    Ok(())
 }

@@ -4,6 +4,7 @@ ghost use Rattle.records.specs.Texts.{only_tag, written_label, label_field};
 
 use crate::base16::decode;
 use crate::values::LabelField;
+use arrayvec::ArrayVec;
 use faults::{Base16Fault, FieldCause, FieldFault};
 use labels::GradeLabel;
 use tags::{TagFault, read_tag};
@@ -18,7 +19,8 @@ pub fn read_label(text: &[u8]) -> Result<GradeLabel, FieldCause>
     if text.len() > MOST_DIGITS {
         return Err(FieldCause::Base16(Base16Fault { octet: MOST_DIGITS }));
     }
-    let octets = decode(text)?;
+    let mut octets = ArrayVec::new();
+    decode(text, &mut octets)?;
     only_tag(octets.as_slice())
 }
 

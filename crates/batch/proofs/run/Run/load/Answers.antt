@@ -18,7 +18,7 @@ returns-in-None g c =
     let starts : None ≡ loaded_of model objects (record_of c.in-Some.line.octets.now) = cc (c.in_ok-outcome.ensures.outcome, c.in-None.is) in
     let kept : c.load_line.new.objects.items ≡ objects = rw c.in-None.is at c.in_ok-outcome.ensures.starts in
     let made : c.new-monitor.result ≡ made_over objects blank_rows blank_places =
-    cc (c.new-monitor.ensures, c.deref.ensures.value, c.blank_rows-rows.ensures, c.blank_places-places.ensures) in
+    cc (c.new-monitor.ensures.made, c.deref.ensures.value, c.blank_rows-rows.ensures, c.blank_places-places.ensures) in
     let rest = run_starts model blank_rows blank_places objects c.new-monitor.result c.serve_line.new.monitor
     c.loop-line.self c.serve_line.new.self c.next.new.self c.in-Some.line
     given.0 given.1 given.2 served.written served.left starts made served.after in

@@ -4,8 +4,8 @@ use Rattle.monitor.proofs.Views.{fresh_from}
 use Rattle.monitor.proofs.monitors.Monitor.new.Goals as goal
 
 -- the check alone leaves this goal open
-pub returns : goal.returns
-returns g c =
+pub returns-clause-made : goal.returns-clause-made
+returns-clause-made g c =
     fresh_from
     (take_at_most c.min-object_count.result 4096 c.args.objects.now (omega (arith, c.min-object_count.ensures)))
     (take_at_most c.min-row_count.result 1024 c.args.rows.now (omega (arith, c.min-row_count.ensures)))
